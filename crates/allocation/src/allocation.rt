@@ -9,6 +9,8 @@ ghost use Rattle.allocation.specs.Meaning.{Meaning, Lawful, Allocates, Frees, 
 ghost use Rattle.std.specs.declared.option.Option.the-variants.{Some, None};
 ghost use Rattle.std.specs.Results.{Cases};
 use crate::block::Block;
+use crate::block::BlockDebug;
+use crate::block::BlockPartialEq;
 use crate::fault::Fault;
 use crate::layout::Layout;
 use region::zero_within;
@@ -90,4 +92,98 @@ pub trait Allocator {
             (λ f. (grow-fault (meaning (now (self .entry))) (length (now (region .entry))) block (asked layout) ≡ Some f)
             × (meaning (now (self .exit)) ≡ meaning (now (self .entry)))
             × (now (region .exit) ≡ now (region .entry))) ⌝ };
+}
+
+// A live block as a buffer holds it: its functions hand the allocator's fault on as it came.
+#[derive(Clone, Copy, PartialEq, Eq, Debug)]
+pub struct Allocation {
+    pub block: Block,
+}
+
+impl Allocation {
+    // Takes a block of exactly the layout.
+    pub fn allocate<B: Allocator>(allocator: &mut B, region: &[u8], layout: Layout) -> Result<Allocation, Fault>
+        ensures outcome { λ r. ⌜ Cases r
+            (λ a. (allocate-fault (B·Allocator .meaning (now (allocator .entry))) (length (now (region .entry))) (asked layout) ≡ None)
+            × Allocates (B·Allocator .meaning (now (allocator .entry))) (asked layout) (a .block) (B·Allocator .meaning (now (allocator .exit))))
+            (λ f. (allocate-fault (B·Allocator .meaning (now (allocator .entry))) (length (now (region .entry))) (asked layout) ≡ Some f)
+            × (B·Allocator .meaning (now (allocator .exit)) ≡ B·Allocator .meaning (now (allocator .entry)))) ⌝ }
+    {
+        let place = allocator.allocate(region, layout)?;
+        Ok(Allocation::at(place, layout))
+    }
+
+    // The same, and sets just the block to zero.
+    pub fn allocate_zeroed<B: Allocator>(allocator: &mut B, region: &mut [u8], layout: Layout) -> Result<Allocation, Fault>
+        ensures outcome { λ r. ⌜ Cases r
+            (λ a. (allocate-fault (B·Allocator .meaning (now (allocator .entry))) (length (now (region .entry))) (asked layout) ≡ None)
+            × Allocates (B·Allocator .meaning (now (allocator .entry))) (asked layout) (a .block) (B·Allocator .meaning (now (allocator .exit)))
+            × (now (region .exit) ≡ overwrite (a .block .place) (replicate (a .block .size) 0) (now (region .entry))))
+            (λ f. (allocate-fault (B·Allocator .meaning (now (allocator .entry))) (length (now (region .entry))) (asked layout) ≡ Some f)
+            × (B·Allocator .meaning (now (allocator .exit)) ≡ B·Allocator .meaning (now (allocator .entry)))
+            × (now (region .exit) ≡ now (region .entry))) ⌝ }
+    {
+        let place = allocator.allocate_zeroed(region, layout)?;
+        Ok(Allocation::at(place, layout))
+    }
+
+    // The block of a layout at a place.
+    fn at(place: usize, layout: Layout) -> Allocation
+        ensures { λ r. ⌜ r .block ≡ block-at place (asked layout) ⌝ }
+    {
+        Allocation {
+            block: Block {
+                place,
+                size: layout.size(),
+                align: layout.align().as_usize(),
+            },
+        }
+    }
+
+    // Where the block starts, counted from the region's start.
+    pub fn place(self) -> usize
+        ensures { λ r. ⌜ r ≡ self .block .place ⌝ }
+    {
+        self.block.place
+    }
+
+    // How many bytes the block has.
+    pub fn size(self) -> usize
+        ensures { λ r. ⌜ r ≡ self .block .size ⌝ }
+    {
+        self.block.size
+    }
+
+    // What the block's address is a multiple of.
+    pub fn alignment(self) -> usize
+        ensures { λ r. ⌜ r ≡ self .block .align ⌝ }
+    {
+        self.block.align
+    }
+
+    // Grows the block to exactly the layout; refused, it stays as it is.
+    pub fn grow<B: Allocator>(&mut self, allocator: &mut B, region: &mut [u8], layout: Layout) -> Result<(), Fault>
+        ensures outcome { λ r. ⌜ Cases r
+            (λ _. (grow-fault (B·Allocator .meaning (now (allocator .entry))) (length (now (region .entry))) (now (self .entry) .block) (asked layout) ≡ None)
+            × Grows (B·Allocator .meaning (now (allocator .entry))) (now (self .entry) .block) (asked layout) (now (self .exit) .block) (B·Allocator .meaning (now (allocator .exit))) (now (region .entry)) (now (region .exit)))
+            (λ f. (grow-fault (B·Allocator .meaning (now (allocator .entry))) (length (now (region .entry))) (now (self .entry) .block) (asked layout) ≡ Some f)
+            × (now (self .exit) ≡ now (self .entry))
+            × (B·Allocator .meaning (now (allocator .exit)) ≡ B·Allocator .meaning (now (allocator .entry)))
+            × (now (region .exit) ≡ now (region .entry))) ⌝ }
+    {
+        let place = allocator.grow(region, self.block, layout)?;
+        *self = Allocation::at(place, layout);
+        Ok(())
+    }
+
+    // Gives the block back.
+    pub fn release<B: Allocator>(self, allocator: &mut B, region: &[u8]) -> Result<(), Fault>
+        ensures outcome { λ r. ⌜ Cases r
+            (λ _. (deallocate-fault (B·Allocator .meaning (now (allocator .entry))) (length (now (region .entry))) (self .block) ≡ None)
+            × Frees (B·Allocator .meaning (now (allocator .entry))) (self .block) (B·Allocator .meaning (now (allocator .exit))))
+            (λ f. (deallocate-fault (B·Allocator .meaning (now (allocator .entry))) (length (now (region .entry))) (self .block) ≡ Some f)
+            × (B·Allocator .meaning (now (allocator .exit)) ≡ B·Allocator .meaning (now (allocator .entry)))) ⌝ }
+    {
+        allocator.deallocate(region, self.block)
+    }
 }
