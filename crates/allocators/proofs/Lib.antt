@@ -1,0 +1,5 @@
+pub mod Blocks
+mod Edits
+pub mod Grants
+pub mod Laws
+mod Multiples

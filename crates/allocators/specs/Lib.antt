@@ -1,0 +1,4 @@
+pub mod Fitting
+pub mod Tables
+pub mod Placings
+pub mod Models
