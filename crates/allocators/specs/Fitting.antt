@@ -31,7 +31,7 @@ sound base n (b ∷ bs) = (lies base n b && clear-of b bs) && sound base n bs
 abbrev pub fits : ℕ → ℕ → List Block → Request → ℕ → Bool
 fits base n live r p = lies base n (block-at p r) && clear-of (block-at p r) live
 
--- the same in words (theorem `fits-in-words`)
+-- the same in words: `Granting` of specs/Rules says where the test finds such a place
 pub record Fits (base n : ℕ) (live : List Block) (r : Request) (p : ℕ) : Type 0 where
   pub filled : 1 ≤ r .size
   pub within : p + r .size ≤ n

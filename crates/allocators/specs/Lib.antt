@@ -2,3 +2,4 @@ pub mod Fitting
 pub mod Tables
 pub mod Placings
 pub mod Models
+pub mod Rules

@@ -6,3 +6,4 @@ pub mod general;
 pub mod places;
 pub mod shelf;
 pub mod table;
+pub mod theorems;

@@ -1,5 +1,6 @@
 // SPDX-License-Identifier: Apache-2.0
 // What General and Shelf do alike: their checks, the place of a block, and what each call changes.
+ghost use lib.Dec.{eqb};
 ghost use lib.ListN.{length, replicate};
 ghost use mathlib.Core.Bool.{true, false};
 ghost use mathlib.Core.List.{[]};
@@ -170,16 +171,11 @@ impl Arena {
             && (self.stays(placing, block, layout) || self.would_grant(placing, layout))
     }
 
-    // Refuses a region of another length.
-    fn check_region(&self, region: &[u8], request: Request) -> Result<(), Fault>
-        ensures { λ r. ⌜ Cases r
-            (λ _. length (now (region .entry)) ≡ now (self .entry) .extent)
-            (λ f. (length (now (region .entry)) ≡ now (self .entry) .extent → ⊥) × (f ≡ Asked RegionDiffers Allocator request)) ⌝ }
+    // Whether the region has the length that was agreed on.
+    fn serves(&self, region: &[u8]) -> bool
+        ensures { λ r. ⌜ r ≡ eqb (length (now (region .entry))) (now (self .entry) .extent) ⌝ }
     {
-        if region.len() != self.extent {
-            return refused(Refusal::RegionDiffers, request);
-        }
-        Ok(())
+        region.len() == self.extent
     }
 
     // The checks of `allocate`, and the place of the new block.
@@ -196,7 +192,9 @@ impl Arena {
             (λ f. allocate-fault (meant placing (now (self .entry))) (length (now (region .entry))) (asked layout) ≡ Some f) ⌝ }
     {
         let asked = request(layout);
-        self.check_region(region, asked)?;
+        if !self.serves(region) {
+            return refused(Refusal::RegionDiffers, asked);
+        }
         if asked.size == 0 {
             return refused(Refusal::NoSuchBlock, asked);
         }
@@ -221,16 +219,18 @@ impl Arena {
             × Replaced placing (now (self .entry)) block (asked layout) p)
             (λ f. grow-fault (meant placing (now (self .entry))) (length (now (region .entry))) block (asked layout) ≡ Some f) ⌝ }
     {
-        let asked = request(layout);
-        self.check_region(region, asked)?;
-        if !self.may_grow(block, asked) {
-            return refused(Refusal::NoSuchBlock, asked);
+        let new = request(layout);
+        if !self.serves(region) {
+            return refused(Refusal::RegionDiffers, new);
+        }
+        if !self.may_grow(block, new) {
+            return refused(Refusal::NoSuchBlock, new);
         }
         if self.stays(placing, block, layout) {
             return Ok(block.place);
         }
         let Some(place) = self.place_for(placing, layout) else {
-            return refused(Refusal::NotGranted, asked);
+            return refused(Refusal::NotGranted, new);
         };
         Ok(place)
     }
@@ -275,15 +275,18 @@ impl Arena {
         Ok(place)
     }
 
-    // The checks of `deallocate`.
+    // The checks of `deallocate`, which look at neither way to choose places.
     pub(crate) fn check_live(&self, region: &[u8], block: Block) -> Result<(), Fault>
         ensures { λ r. ⌜ Cases r
             (λ _. deallocate-fault (meant Lowest (now (self .entry))) (length (now (region .entry))) block ≡ None)
             (λ f. deallocate-fault (meant Lowest (now (self .entry))) (length (now (region .entry))) block ≡ Some f) ⌝ }
     {
-        self.check_region(region, block.request())?;
+        let given = block.request();
+        if !self.serves(region) {
+            return refused(Refusal::RegionDiffers, given);
+        }
         if !self.holds(block) {
-            return refused(Refusal::NoSuchBlock, block.request());
+            return refused(Refusal::NoSuchBlock, given);
         }
         Ok(())
     }
