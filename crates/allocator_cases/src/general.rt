@@ -273,7 +273,10 @@ mod tests {
         check_eq(general.allocate(&region, layout(3, 0)?)?, 0)?;
         region[0] = 1;
         region[2] = 3;
-        check_eq(general.grow(&mut region, block(0, 3, 0)?, layout(5, 2)?)?, 4)?;
+        check_eq(
+            general.grow(&mut region, block(0, 3, 0)?, layout(5, 2)?)?,
+            4,
+        )?;
         check(region[4] == 1 && region[5] == 7 && region[6] == 3 && region[7] == 7)?;
         check_eq(general.allocate_zeroed(&mut region, layout(2, 0)?)?, 0)?;
         check(region[0] == 0 && region[1] == 0 && region[2] == 3 && region[9] == 7)

@@ -54,9 +54,12 @@ fn done(result: Result<(), Fault>) -> Answer {
     }
 }
 
-fn answer<B: Allocator>(allocator: &mut B, region: &mut [u8], call: Call) -> Result<Answer, Refusal> {
+fn ask<B: Allocator>(allocator: &mut B, region: &mut [u8], call: Call) -> Result<Answer, Refusal> {
     match call {
-        Call::Allocate(size, exponent) => Ok(placed(allocator.allocate(region, layout(size, exponent)?))),
+        Call::Allocate(size, exponent) => Ok(placed(allocator.allocate(
+            region,
+            layout(size, exponent)?,
+        ))),
         Call::Deallocate(place, size, exponent) => {
             Ok(done(allocator.deallocate(region, block(place, size, exponent)?)))
         }
@@ -68,9 +71,13 @@ fn answer<B: Allocator>(allocator: &mut B, region: &mut [u8], call: Call) -> Res
 }
 
 // Makes the calls one after another, and holds each answer to the one that is written.
-pub fn replay<B: Allocator>(allocator: &mut B, region: &mut [u8], steps: &[Step]) -> Result<(), Fail> {
+pub fn replay<B: Allocator>(
+    allocator: &mut B,
+    region: &mut [u8],
+    steps: &[Step],
+) -> Result<(), Fail> {
     for (i, step) in steps.iter().enumerate() {
-        let got = answer(allocator, region, step.call)?;
+        let got = ask(allocator, region, step.call)?;
         check_eq(got, step.answer).note(format_args!("step {i}"))?;
     }
     Ok(())

@@ -17,14 +17,17 @@ lone-grants base n (b ∷ bs) r = false
 abbrev pub lone-grows : ℕ → ℕ → List Block → Block → Request → Bool
 lone-grows base n live b r = (is-among b live && leb (b .size) (r .size)) && inside base n (block-at (b .place) r)
 
-abbrev pub lone : LoneBlock → Meaning
-lone a =
+abbrev pub lone-meaning : ℕ → ℕ → List Block → Meaning
+lone-meaning at n held =
     record {
-      base = a .base;
-      extent = a .extent;
-      room = a .extent;
+      base = at;
+      extent = n;
+      room = n;
       copies = false;
-      live = blocks (a .live);
-      grants = lone-grants (a .base) (a .extent) (blocks (a .live));
-      grows = lone-grows (a .base) (a .extent) (blocks (a .live));
+      live = held;
+      grants = lone-grants at n held;
+      grows = lone-grows at n held;
     }
+
+abbrev pub lone : LoneBlock → Meaning
+lone a = lone-meaning (a .base) (a .extent) (blocks (a .live))

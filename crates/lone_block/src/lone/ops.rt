@@ -113,7 +113,9 @@ pub impl Allocator for LoneBlock as LoneBlockAllocator {
     }
 
     fn would_grow(&self, block: Block, layout: Layout) -> bool {
-        self.is_live(block) && block.size <= layout.size() && self.has_room(block_at(block.place, layout))
+        self.is_live(block)
+            && block.size <= layout.size()
+            && self.has_room(block_at(block.place, layout))
     }
 
     fn allocate(&mut self, region: &[u8], layout: Layout) -> Result<usize, Fault> {
@@ -155,5 +157,45 @@ pub impl Allocator for LoneBlock as LoneBlockAllocator {
         }
         self.live = Some(grown);
         Ok(grown.place)
+    }
+}
+
+#[cfg(test)]
+mod tests {
+    use crate::lone::LoneBlock;
+    use crate::lone::ops::LoneBlockAllocator;
+    use allocation::alignment::Alignment;
+    use allocation::allocation::Allocator;
+    use allocation::block::Block;
+    use allocation::fault::FaultDebug;
+    use allocation::fault::RefusalDebug;
+    use allocation::layout::Layout;
+    use std::test::*;
+
+    // Base 3: the first address that is a multiple of 16 is at place 13.
+    #[test]
+    fn one_at_a_time() -> Result<(), Fail> {
+        let mut region = [9u8; 1024];
+        let mut lone = LoneBlock::new(3, 1024)?;
+        let align = Alignment::try_from_untrusted_exponent(4)?;
+        let small = Layout::from_size_align(16, align)?;
+        let large = Layout::from_size_align(1011, align)?;
+        check_eq(lone.allocate_zeroed(&mut region, small)?, 13)?;
+        check(region[12] == 9 && region[13] == 0 && region[28] == 0 && region[29] == 9)?;
+        check(!lone.would_grant(small))?;
+        let first = Block {
+            place: 13,
+            size: 16,
+            align: 16,
+        };
+        check_eq(lone.grow(&mut region, first, large)?, 13)?;
+        check(!lone.is_live(first) && lone.any_live())?;
+        let grown = Block {
+            place: 13,
+            size: 1011,
+            align: 16,
+        };
+        lone.deallocate(&region, grown)?;
+        check(lone.would_grant(large) && !lone.any_live())
     }
 }
