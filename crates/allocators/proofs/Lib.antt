@@ -3,4 +3,3 @@ mod Edits
 pub mod Grants
 mod InWords
 pub mod Laws
-mod Multiples
