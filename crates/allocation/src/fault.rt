@@ -130,7 +130,10 @@ pub impl fmt::Display for Fault as FaultDisplay {
             Fault::Asked(refusal, Layer::Allocator, request) => {
                 let size = request.size;
                 let align = request.align;
-                write!(f, "{refusal} (allocator, {size} bytes at alignment {align})")
+                write!(
+                    f,
+                    "{refusal} (allocator, {size} bytes at alignment {align})"
+                )
             }
         }
     }
