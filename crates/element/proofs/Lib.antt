@@ -1,2 +1,4 @@
 pub mod Digits
 pub mod Rows
+pub mod Places
+pub mod Whole

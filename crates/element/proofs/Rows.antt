@@ -25,12 +25,12 @@ get-behind p q bs k e f =
     let whole : take k bs ++ drop k bs ≡ bs = take-append-drop k bs in
     cc
 
-bytes-take : (n : ℕ) (xs : List ℕ) → Bytes xs → Bytes (take n xs)
+pub bytes-take : (n : ℕ) (xs : List ℕ) → Bytes xs → Bytes (take n xs)
 bytes-take zero xs a = tt
 bytes-take (suc n) [] a = tt
 bytes-take (suc n) (x ∷ xs) a = (a .0, bytes-take n xs (a .1))
 
-bytes-drop : (n : ℕ) (xs : List ℕ) → Bytes xs → Bytes (drop n xs)
+pub bytes-drop : (n : ℕ) (xs : List ℕ) → Bytes xs → Bytes (drop n xs)
 bytes-drop zero xs a = a
 bytes-drop (suc n) [] a = tt
 bytes-drop (suc n) (x ∷ xs) a = bytes-drop n xs (a .1)

@@ -23,7 +23,7 @@ pub impl Element for u8 as U8Element {
     }
 
     fn put(&self, out: &mut [u8]) {
-        out.copy_from_slice(&self.to_le_bytes());
+        out.copy_from_slice(&u8::to_le_bytes(*self));
     }
 
     fn get(bytes: &[u8]) -> u8 {
@@ -54,7 +54,7 @@ pub impl Element for u16 as U16Element {
     }
 
     fn put(&self, out: &mut [u8]) {
-        out.copy_from_slice(&self.to_le_bytes());
+        out.copy_from_slice(&u16::to_le_bytes(*self));
     }
 
     fn get(bytes: &[u8]) -> u16 {
@@ -85,7 +85,7 @@ pub impl Element for u32 as U32Element {
     }
 
     fn put(&self, out: &mut [u8]) {
-        out.copy_from_slice(&self.to_le_bytes());
+        out.copy_from_slice(&u32::to_le_bytes(*self));
     }
 
     fn get(bytes: &[u8]) -> u32 {
@@ -116,7 +116,7 @@ pub impl Element for u64 as U64Element {
     }
 
     fn put(&self, out: &mut [u8]) {
-        out.copy_from_slice(&self.to_le_bytes());
+        out.copy_from_slice(&u64::to_le_bytes(*self));
     }
 
     fn get(bytes: &[u8]) -> u64 {

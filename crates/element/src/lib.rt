@@ -10,6 +10,8 @@ ghost use Rattle.element.specs.Patterns.{OneToOne, Shaped};
 pub mod fields;
 pub mod glass_line;
 pub mod integers;
+pub mod theorems;
+pub mod writing;
 
 // A kind of element: all its values have one width in bytes, and each value is one byte pattern of that width.
 pub trait Element: Sized {
