@@ -1,4 +1,4 @@
 pub mod Digits
 pub mod Rows
-pub mod Places
+pub mod Behind
 pub mod Whole

@@ -11,7 +11,7 @@ use Rattle.std.proofs.shelf.Lists.{drop-drop, length-append, length-drop, lengt
 use Rattle.region.specs.Bytes.{part}
 use Rattle.element.specs.Columns.{Columns}
 use Rattle.element.specs.Patterns.{Bytes, OneToOne}
-use Rattle.element.proofs.Places.{length-joined}
+use Rattle.element.proofs.Behind.{length-joined}
 use Rattle.element.proofs.Rows.{bytes-take, bytes-drop}
 
 module _ {K : Type 0} (w : ℕ) (f : K → List ℕ) (law : OneToOne w f) where

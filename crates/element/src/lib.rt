@@ -10,6 +10,7 @@ ghost use Rattle.element.specs.Patterns.{OneToOne, Shaped};
 pub mod fields;
 pub mod glass_line;
 pub mod integers;
+mod places;
 pub mod theorems;
 pub mod writing;
 

@@ -1,29 +1,23 @@
 // SPDX-License-Identifier: Apache-2.0
 // Values of any kind written into a region and read from a part of it.
 // Stands for the pointer writes and reads of `T` in src/buffer_mut.rs and src/buffer.rs of vortex-buffer 0.90.0.
-ghost use lib.Dec.{ltb};
 ghost use lib.ListN.{length, replicate};
 ghost use mathlib.Core.Path.{_≡_};
-ghost use Prim.Native.Nat.{_+_, _*_, _/_, _^_, _≤_, _<_};
+ghost use Prim.Native.Nat.{_+_, _*_, _≤_, _<_};
 ghost use Rattle.region.specs.Bytes.{part, overwrite};
 ghost use Rattle.std.specs.Joined.{joined};
 ghost use Rattle.std.specs.Options.{Cases};
 use crate::Element;
-
-// Where the value of an index stands, behind a place.
-fn place_of(place: usize, index: usize, width: usize) -> usize
-    requires { ⌜ place + index * width < 2 ^ 64 ⌝ }
-    ensures { λ r. ⌜ r ≡ place + index * width ⌝ }
-{
-    place + index * width
-}
+use crate::places::end_of;
+use crate::places::holds;
+use crate::places::place_of;
 
 // Writes one value's pattern at a place.
 pub fn write_one<K: Element>(region: &mut [u8], place: usize, value: &K)
     requires { ⌜ place + K·Element .width ≤ length (now region) ⌝ }
     ensures { λ _. ⌜ now (region .exit) ≡ overwrite place (K·Element .pattern (now (value .entry))) (now (region .entry)) ⌝ }
 {
-    value.put(&mut region[place..place + K::width()]);
+    value.put(&mut region[place..end_of::<K>(place)]);
 }
 
 // Writes the values' patterns one behind another, from a place on.
@@ -48,14 +42,6 @@ pub fn write_repeated<K: Element>(region: &mut [u8], place: usize, value: &K, n:
     }
 }
 
-// Whether a part of that size holds a value at an index.
-fn holds(size: usize, width: usize, index: usize) -> bool
-    requires { ⌜ 0 < width ⌝ }
-    ensures { λ r. ⌜ r ≡ ltb index (size / width) ⌝ }
-{
-    index < size / width
-}
-
 // The value at an index of a part that holds values one behind another; none where the part ends before the value does.
 pub fn read_at<K: Element>(bytes: &[u8], index: usize) -> Option<K>
     ensures { λ r. ⌜ Cases r
@@ -68,5 +54,5 @@ pub fn read_at<K: Element>(bytes: &[u8], index: usize) -> Option<K>
         return None;
     }
     let from = place_of(0, index, width);
-    Some(K::get(&bytes[from..from + width]))
+    Some(K::get(&bytes[from..end_of::<K>(from)]))
 }

@@ -1,4 +1,4 @@
-use Rattle.element.proofs.Places.{wide}
+use Rattle.element.proofs.Behind.{wide}
 use Rattle.element.proofs.Whole.{columns}
 use Rattle.element.proofs.theorems.columns_stand.Needs as need
 

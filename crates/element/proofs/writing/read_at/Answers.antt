@@ -7,7 +7,7 @@ use lib.ListN.{length, take, drop}
 use borrow.Author.Needs.{needs}
 use borrow.Author.Tests.{ltb-true, ltb-false}
 use Rattle.region.specs.Bytes.{part}
-use Rattle.element.proofs.Places.{wide, ends-inside, ends-outside}
+use Rattle.element.proofs.Behind.{wide, ends-inside, ends-outside}
 use Rattle.element.proofs.writing.read_at.Given as given
 use Rattle.element.proofs.writing.read_at.Needs as need
 
@@ -26,13 +26,14 @@ pub place-of-from-requires : need.place-of-from-requires
 place-of-from-requires g c κs =
     omega (arith, inside g (c .width-width .result) (c .args .index) (length (c .args .bytes .now)) (c .width-width .ensures) (sym (c .if-not-holds .ensures tt)))
 
-pub add-from : need.add-from
-add-from g c =
-    record { fits = omega (arith, inside g (c .width-width .result) (c .args .index) (length (c .args .bytes .now)) (c .width-width .ensures) (sym (c .if-not-holds .ensures tt))) }
+pub end-of-requires : need.end-of-requires
+end-of-requires g c κs =
+    omega (arith, c .width-width .ensures, inside g (c .width-width .result) (c .args .index) (length (c .args .bytes .now)) (c .width-width .ensures) (sym (c .if-not-holds .ensures tt)))
 
 pub part-get-end : need.part-get-end
 part-get-end g c =
     let h = inside g (c .width-width .result) (c .args .index) (length (c .args .bytes .now)) (c .width-width .ensures) (sym (c .if-not-holds .ensures tt)) in
+    let e = c .width-width .ensures in
     search needs
 
 pub returns : need.returns
@@ -44,5 +45,5 @@ returns g c =
     let from = c .place-of-from .result in
     let within = inside g (c .width-width .result) i (length bs) (c .width-width .ensures) (sym (c .if-not-holds .ensures tt)) in
     let starts : from ≡ i * w = c .place-of-from .ensures ∙ omega arith ∙ ap (λ v. i * v) (c .width-width .ensures) in
-    let count : from + c .width-width .result - from ≡ w = omega (arith, c .width-width .ensures) in
+    let count : c .end-of .result - from ≡ w = omega (arith, c .end-of .ensures) in
     (rw (← c .width-width .ensures) within, c .get .ensures ∙ ap (λ n. take n (drop from bs)) count ∙ ap (λ k. take w (drop k bs)) starts)

@@ -7,7 +7,7 @@ use Rattle.std.specs.Joined.{joined}
 use Rattle.std.proofs.shelf.Lists.{length-take-le, take-all, take-more}
 use Rattle.region.specs.Bytes.{overwrite}
 use Rattle.region.proofs.Writes.{overwrite-none}
-use Rattle.element.proofs.Places.{place-within, write-more}
+use Rattle.element.proofs.Behind.{place-within, write-more}
 use Rattle.element.proofs.writing.write_all.Needs as need
 
 pub loop-i-holds : need.loop-i-holds

@@ -7,7 +7,7 @@ use Rattle.std.specs.Joined.{joined}
 use Rattle.std.proofs.shelf.Lists.{length-replicate, replicate-more}
 use Rattle.region.specs.Bytes.{overwrite}
 use Rattle.region.proofs.Writes.{overwrite-none}
-use Rattle.element.proofs.Places.{place-within, write-more}
+use Rattle.element.proofs.Behind.{place-within, write-more}
 use Rattle.element.proofs.writing.write_repeated.Needs as need
 
 pub loop-i-holds : need.loop-i-holds
