@@ -17,7 +17,7 @@ const COUNT: usize = 1 << 20;
 
 const PLACE: usize = 64;
 
-const ROUNDS: usize = 25;
+const ROUNDS: usize = 200;
 
 // Nanoseconds that the writing of the values takes.
 fn write_time<K: Element>(rt: &LibcRuntime, region: &mut [u8], values: &[K]) -> io::Result<u128>
@@ -92,9 +92,9 @@ fn time(rt: &LibcRuntime) -> Result<(), AnyError> {
     }
     compare(rt, "u64", &mut region, &bytes[0..COUNT * 8], &longs)?;
     compare(rt, "glass line", &mut region, &bytes, &lines)?;
-    let mut sum = 0u8;
+    let mut sum = 0u64;
     for byte in region.iter() {
-        sum ^= *byte;
+        sum = sum.wrapping_mul(31).wrapping_add(u64::from(*byte));
     }
     println!(rt, "checksum {sum}")?;
     Ok(())

@@ -5,7 +5,7 @@ use Prim.Native.Nat.{ℕ, zero, suc, _+_, _-_}
 use native.Mathlib.Omega.{arith}
 use lib.ListN.{length, take, drop}
 use borrow.Rule.Slice.PartMut.{putMid}
-use Rattle.std.proofs.shelf.Lists.{take-at, drop-at, drop-all, take-append-drop, take-rest, append-nil, length-append, length-take-le, length-drop}
+use Rattle.std.proofs.shelf.Lists.{take-at, drop-at, drop-all, take-append-drop, append-nil, length-append, length-take-le, length-drop}
 use Rattle.element.specs.Patterns.{Bytes, OneToOne}
 
 -- the second part was written behind the first, to the end
@@ -15,14 +15,6 @@ put-behind p t q k e =
     let back : drop k (p ++ t) ≡ t = drop-at p t k e in
     let none : drop (length (p ++ t) - k) t ≡ [] = drop-all _ t (omega (arith, length-append p t)) in
     let end : q ++ [] ≡ q = append-nil q in
-    cc
-
--- the two parts were read
-pub get-behind : (p q bs : List ℕ) (k : ℕ) → p ≡ take (k - 0) bs → q ≡ take (length bs - k) (drop k bs) → p ++ q ≡ bs
-get-behind p q bs k e f =
-    let front : take (k - 0) bs ≡ take k bs = ap (λ (n : ℕ). take n bs) (omega arith) in
-    let back : take (length bs - k) (drop k bs) ≡ drop k bs = take-rest bs k in
-    let whole : take k bs ++ drop k bs ≡ bs = take-append-drop k bs in
     cc
 
 pub bytes-take : (n : ℕ) (xs : List ℕ) → Bytes xs → Bytes (take n xs)
@@ -35,7 +27,7 @@ bytes-drop zero xs a = a
 bytes-drop (suc n) [] a = tt
 bytes-drop (suc n) (x ∷ xs) a = bytes-drop n xs (a .1)
 
--- The law of a kind C that is made of an A and a B, whose patterns stand one behind the other.
+-- The law of a kind that is made of two, whose patterns stand one behind the other.
 pub side-by-side : {X Y C : Type 0} (w v : ℕ) (f : X → List ℕ) (g : Y → List ℕ) → OneToOne w f → OneToOne v g
     → (left : C → X) (right : C → Y) (both : X → Y → C)
     → ((c : C) → both (left c) (right c) ≡ c) → ((x : X) (y : Y) → left (both x y) ≡ x) → ((x : X) (y : Y) → right (both x y) ≡ y)

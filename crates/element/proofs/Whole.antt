@@ -7,6 +7,7 @@ use native.Mathlib.Nat.{suc-mul}
 use native.Mathlib.Omega.{arith}
 use lib.ListN.{length, getD, take, drop}
 use Rattle.std.specs.Joined.{joined}
+use Rattle.std.specs.shelf.Lists.{All}
 use Rattle.std.proofs.shelf.Lists.{drop-drop, length-append, length-drop, length-take-le, nil-from-length, take-append-drop, take-at, drop-at}
 use Rattle.region.specs.Bytes.{part}
 use Rattle.element.specs.Columns.{Columns}
@@ -57,10 +58,20 @@ module _ {K : Type 0} (w : ℕ) (f : K → List ℕ) (law : OneToOne w f) where
       let rest = values-of n (drop w bs) (length-drop w bs ∙ omega arith) (bytes-drop w bs p) in
       (x .0 ∷ rest .0, ap suc (rest .1), ap (λ b. b ++ joined f (rest .0)) (x .1) ∙ ap (λ b. take w bs ++ b) (rest .2) ∙ take-append-drop w bs)
 
+  wide-each : (xs : List K) → All (λ p. length p ≡ w) (map f xs)
+  wide-each [] = tt
+  wide-each (x ∷ xs) = (law .long x, wide-each xs)
+
+  joins-all : (xs : List K) → joined (λ p. p) (map f xs) ≡ joined f xs
+  joins-all [] = refl
+  joins-all (x ∷ xs) = ap (λ bs. f x ++ bs) (joins-all xs)
+
   pub columns : 0 < w → Columns w f
   columns h = record {
     patterns = λ xs ys. (same-patterns xs ys, ap (map f));
     bytes = λ xs ys. (same-bytes h xs ys, ap (joined f));
+    wide = wide-each;
+    joins = joins-all;
     long = length-joined w f (law .long);
     place = part-of;
     every = values-of;

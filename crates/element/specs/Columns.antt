@@ -5,6 +5,7 @@ use mathlib.Core.Path.{_≡_}
 use Prim.Native.Nat.{ℕ, _*_, _<_}
 use lib.ListN.{length, getD}
 use Rattle.std.specs.Joined.{joined}
+use Rattle.std.specs.shelf.Lists.{All}
 use Rattle.region.specs.Bytes.{part}
 use Rattle.element.specs.Patterns.{Bytes}
 
@@ -14,6 +15,9 @@ pub record Columns {K : Type 0} (width : ℕ) (pattern : K → List ℕ) : Type 
   pub patterns : (xs ys : List K) → (map pattern xs ≡ map pattern ys) ↔ (xs ≡ ys)
   -- and so are the bytes that the patterns make, one behind another
   pub bytes : (xs ys : List K) → (joined pattern xs ≡ joined pattern ys) ↔ (xs ≡ ys)
+  -- each pattern is as long as the kind is wide, and the patterns joined are those bytes
+  pub wide : (xs : List K) → All (λ p. length p ≡ width) (map pattern xs)
+  pub joins : (xs : List K) → joined (λ p. p) (map pattern xs) ≡ joined pattern xs
   -- as many bytes as values, times the width
   pub long : (xs : List K) → length (joined pattern xs) ≡ length xs * width
   -- the pattern of each value stands at its index

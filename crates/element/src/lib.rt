@@ -16,14 +16,19 @@ pub mod writing;
 
 // A kind of element: all its values have one width in bytes, and each value is one byte pattern of that width.
 pub trait Element: Sized {
+    // How many bytes a value takes.
     ghost width: { ℕ };
 
+    // What the address of a value is a multiple of.
     ghost align: { ℕ };
 
+    // A value's bytes.
     ghost pattern: { Self → List ℕ };
 
+    // The width is 1, 2, 4, 8 or 16, and the alignment is one of these and not above the width.
     law shaped: { Shaped width align };
 
+    // Each value has one pattern of that width, and every list of so many bytes is the pattern of one value.
     law faithful: { OneToOne width pattern };
 
     // The width in bytes.

@@ -56,3 +56,58 @@ pub fn read_at<K: Element>(bytes: &[u8], index: usize) -> Option<K>
     let from = place_of(0, index, width);
     Some(K::get(&bytes[from..end_of::<K>(from)]))
 }
+
+#[cfg(test)]
+mod tests {
+    use super::*;
+    use crate::glass_line::GlassLine;
+    use crate::glass_line::GlassLineElement;
+    use crate::integers::I64Element;
+    use crate::integers::U16Element;
+    use std::test::*;
+
+    // Little-endian, two's complement, and the bytes around a value stay.
+    #[test]
+    fn integers_stand_in_a_region() -> Result<(), Fail> {
+        let mut region = [7u8; 12];
+        write_one(&mut region, 1, &0x0102u16);
+        write_one(&mut region, 3, &-2i64);
+        check_eq(region, [7, 2, 1, 254, 255, 255, 255, 255, 255, 255, 255, 7])?;
+        check_eq(read_at::<u16>(&region[1..3], 0), Some(0x0102))?;
+        check_eq(read_at::<i64>(&region[3..11], 0), Some(-2))?;
+        check_eq(read_at::<i64>(&region[3..11], 1), None)
+    }
+
+    // Catalogue, glass, thickness, one behind another.
+    #[test]
+    fn a_glass_line_stands_in_a_region() -> Result<(), Fail> {
+        let mut region = [0u8; 16];
+        let line = GlassLine {
+            catalogue: 1,
+            glass: 0x0a0b,
+            thickness: -1,
+        };
+        write_repeated(&mut region, 0, &line, 1);
+        check_eq(
+            region,
+            [
+                1,
+                0,
+                0,
+                0,
+                11,
+                10,
+                0,
+                0,
+                255,
+                255,
+                255,
+                255,
+                255,
+                255,
+                255,
+                255,
+            ],
+        )
+    }
+}
