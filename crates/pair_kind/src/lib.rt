@@ -40,8 +40,13 @@ pub impl Element for Pair as PairElement {
 #[cfg(test)]
 mod tests {
     use super::*;
+    use element::glass_line::GlassLine;
+    use element::glass_line::GlassLineElement;
+    use element::integers::I64Element;
+    use element::integers::U16Element;
     use element::writing::read_at;
     use element::writing::write_all;
+    use element::writing::write_one;
     use element::writing::write_repeated;
     use std::test::*;
 
@@ -82,5 +87,49 @@ mod tests {
             2,
         );
         check_eq(region, [0, 7, 8, 7, 8])
+    }
+
+    // The library's own kinds: little-endian, two's complement, fields in their order.
+    #[test]
+    fn other_kinds_stand_beside_them() -> Result<(), Fail> {
+        let mut region = [7u8; 12];
+        write_one(&mut region, 1, &0x0102u16);
+        write_one(&mut region, 3, &-2i64);
+        check_eq(region, [7, 2, 1, 254, 255, 255, 255, 255, 255, 255, 255, 7])?;
+        check_eq(read_at::<u16>(&region[1..3], 0), Some(0x0102))?;
+        check_eq(read_at::<i64>(&region[3..11], 0), Some(-2))?;
+        check_eq(read_at::<i64>(&region[3..11], 1), None)
+    }
+
+    #[test]
+    fn a_glass_line_is_its_fields() -> Result<(), Fail> {
+        let mut region = [0u8; 16];
+        let line = GlassLine {
+            catalogue: 1,
+            glass: 0x0a0b,
+            thickness: -1,
+        };
+        write_one(&mut region, 0, &line);
+        check_eq(
+            region,
+            [
+                1,
+                0,
+                0,
+                0,
+                11,
+                10,
+                0,
+                0,
+                255,
+                255,
+                255,
+                255,
+                255,
+                255,
+                255,
+                255,
+            ],
+        )
     }
 }
