@@ -7,6 +7,8 @@ use element::Element;
 use element::glass_line::GlassLine;
 use element::glass_line::GlassLineElement;
 use element::integers::U64Element;
+use element::theorems::columns_stand;
+use element::theorems::patterns_are_bytes;
 use element::writing::write_all;
 use std::env;
 use std::error::AnyError;
@@ -115,6 +117,8 @@ fn check(rt: &LibcRuntime) -> Result<(), AnyError> {
             thickness: 4,
         },
     ];
+    columns_stand::<GlassLine>();
+    patterns_are_bytes(&lines[0]);
     let mut region = [77u8; 56];
     write_all(&mut region, 4, &longs);
     write_all(&mut region, 24, &lines);

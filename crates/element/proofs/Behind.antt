@@ -1,17 +1,16 @@
 -- Values one behind another: how long their patterns are together, where each stands, and one value more.
-use mathlib.Core.List.{List, [], _∷_, _++_, map}
-use mathlib.Core.Logic.{_↔_}
-use mathlib.Core.Path.{_≡_, refl, sym, ap, _∙_}
-use Prim.Native.Nat.{ℕ, zero, suc, _+_, _-_, _*_, _/_, _^_, _≤_, _<_}
+use mathlib.Core.List.{List, [], _∷_, _++_}
+use mathlib.Core.Path.{_≡_, ap, _∙_}
+use Prim.Native.Nat.{ℕ, _+_, _*_, _/_, _^_, _≤_, _<_}
 use native.Mathlib.Nat.{mul-le-mul-right, add-mul, suc-mul, le-div-iff-mul-le, div-lt-iff-lt-mul}
 use native.Mathlib.Omega.{arith}
-use lib.Pow.{pow-pos}
-use lib.ListN.{length, getD, take, drop, replicate}
+use lib.Pow.{pow-pos, pow-mono}
+use lib.ListN.{length}
 use Rattle.std.specs.Joined.{joined}
-use Rattle.std.proofs.shelf.Lists.{append-nil, joined-more, length-append, length-take-le, length-replicate, replicate-more, take-more, take-at, drop-at, drop-drop}
+use Rattle.std.proofs.shelf.Lists.{joined-more, length-append}
 use Rattle.region.specs.Bytes.{part, overwrite}
 use Rattle.region.proofs.Writes.{overwrite-behind}
-use Rattle.element.specs.Patterns.{OneToOne, Shaped}
+use Rattle.element.specs.Patterns.{Shaped}
 
 -- value i ends before n values do
 pub ends-within : (i n w : ℕ) → i < n → i * w + w ≤ n * w
@@ -27,6 +26,10 @@ ends-outside i m w p h = let more : m / w < i + 1 = omega arith in omega (arith,
 -- no width is 0
 pub wide : {w a : ℕ} → Shaped w a → 0 < w
 wide s = let above : 0 < 2 ^ s .wide .0 = pow-pos (s .wide .0) in omega (arith, s .wide .2)
+
+-- and none is above 16
+pub at-most-16 : {w a : ℕ} → Shaped w a → w ≤ 16
+at-most-16 s = let top : 2 ^ s .wide .0 ≤ 2 ^ 4 = pow-mono (s .wide .1) in omega (arith, s .wide .2)
 
 pub place-within : (place i n w w′ m : ℕ) → i < n → w′ ≡ w → place + n * w ≤ m → place + i * w′ + w′ ≤ m
 place-within place i n w w′ m h e p = rw e (omega (arith, ends-within i n w h))
