@@ -166,7 +166,11 @@ impl<B: Allocator + Drop> Day<B> {
     // Takes a block of zeros.
     pub fn zero(&mut self, size: usize, align: usize) -> Result<Outcome, Trouble> {
         let layout = layout_of(size, align)?;
-        let allocation = Allocation::allocate_zeroed(&mut self.allocator, self.region.as_mut_slice(), layout)?;
+        let allocation = Allocation::allocate_zeroed(
+            &mut self.allocator,
+            self.region.as_mut_slice(),
+            layout,
+        )?;
         let held = self.keep(allocation, false)?;
         Ok(Outcome::Zeroed(held, self.intact(held)))
     }

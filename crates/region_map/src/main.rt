@@ -5,13 +5,13 @@ mod day;
 mod picture;
 mod report;
 
+use allocation::allocation::Allocator;
+use allocation::fault::Refusal;
+use allocation::fault::RefusalDisplay;
 use allocators::general::General;
 use allocators::general::ops::GeneralAllocator;
 use allocators::shelf::Shelf;
 use allocators::shelf::ops::ShelfAllocator;
-use allocation::allocation::Allocator;
-use allocation::fault::Refusal;
-use allocation::fault::RefusalDisplay;
 use command::Command;
 use command::ComplaintDisplay;
 use command::Kind;
@@ -53,7 +53,10 @@ fn main(rt: LibcRuntime) -> io::Result<()> {
     }
     close(&rt, &desk)?;
     if senseless > 0 {
-        println!(rt, "Lines that were not understood and passed over: {senseless}.")?;
+        println!(
+            rt,
+            "Lines that were not understood and passed over: {senseless}."
+        )?;
     }
     Ok(())
 }
@@ -66,7 +69,10 @@ fn obey(rt: &LibcRuntime, desk: Desk, command: Command) -> io::Result<Desk> {
     }
     let mut desk = desk;
     match &mut desk {
-        Desk::Closed => println!(rt, "   there is no allocator yet: write 'allocator shelf 4096 65536', say")?,
+        Desk::Closed => println!(
+            rt,
+            "   there is no allocator yet: write 'allocator shelf 4096 65536', say"
+        )?,
         Desk::General(day) => act(rt, day, command)?,
         Desk::Shelf(day) => act(rt, day, command)?,
     }
@@ -78,14 +84,20 @@ fn open(rt: &LibcRuntime, kind: Kind, extent: usize, base: usize) -> io::Result<
     match kind {
         Kind::General => match General::new(base, extent) {
             Ok(general) => {
-                println!(rt, "   a general allocator over {extent} bytes at address {base}")?;
+                println!(
+                    rt,
+                    "   a general allocator over {extent} bytes at address {base}"
+                )?;
                 Ok(Desk::General(Day::begin(rt.alloc(), general)?))
             }
             Err(refusal) => closed(rt, refusal),
         },
         Kind::Shelf => match Shelf::new(base, extent) {
             Ok(shelf) => {
-                println!(rt, "   a shelf allocator over {extent} bytes at address {base}")?;
+                println!(
+                    rt,
+                    "   a shelf allocator over {extent} bytes at address {base}"
+                )?;
                 Ok(Desk::Shelf(Day::begin(rt.alloc(), shelf)?))
             }
             Err(refusal) => closed(rt, refusal),
@@ -95,12 +107,19 @@ fn open(rt: &LibcRuntime, kind: Kind, extent: usize, base: usize) -> io::Result<
 
 fn closed(rt: &LibcRuntime, refusal: Refusal) -> io::Result<Desk> {
     println!(rt, "   {refusal}")?;
-    println!(rt, "   a region has 1024 to 4294967296 bytes, and its base is 1 to 140737488355328")?;
+    println!(
+        rt,
+        "   a region has 1024 to 4294967296 bytes, and its base is 1 to 140737488355328"
+    )?;
     Ok(Desk::Closed)
 }
 
 // Does one call of the day and prints what came of it.
-fn act<B: Allocator + Drop>(rt: &LibcRuntime, day: &mut Day<B>, command: Command) -> io::Result<()> {
+fn act<B: Allocator + Drop>(
+    rt: &LibcRuntime,
+    day: &mut Day<B>,
+    command: Command,
+) -> io::Result<()> {
     let result = match command {
         Command::Take(size, align) => day.take(size, align),
         Command::Zero(size, align) => day.zero(size, align),

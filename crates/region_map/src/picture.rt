@@ -12,7 +12,11 @@ pub fn draw(rt: &LibcRuntime, extent: usize, held: &[Held]) -> io::Result<()> {
     print!(rt, "   [")?;
     for i in 0..CELLS {
         let from = i.saturating_mul(width);
-        let end = if i + 1 == CELLS { extent } else { from.saturating_add(width) };
+        let end = if i + 1 == CELLS {
+            extent
+        } else {
+            from.saturating_add(width)
+        };
         print!(rt, "{}", sign(held, from, end))?;
     }
     println!(rt, "] {width} bytes a sign")?;
@@ -31,7 +35,10 @@ fn stretches(rt: &LibcRuntime, extent: usize, held: &[Held]) -> io::Result<()> {
         free_from = place.saturating_add(size);
         let number = next.number;
         let align = next.block.align;
-        println!(rt, "   {place}..{free_from} block {number}, {size} bytes at alignment {align}")?;
+        println!(
+            rt,
+            "   {place}..{free_from} block {number}, {size} bytes at alignment {align}"
+        )?;
     }
     free(rt, free_from, extent)
 }
@@ -64,7 +71,11 @@ fn sign(held: &[Held], from: usize, end: usize) -> char {
     for one in held {
         let block = one.block;
         if block.place < end && from < block.place.saturating_add(block.size) {
-            found = if found == '.' { sign_of(one.number) } else { '*' };
+            found = if found == '.' {
+                sign_of(one.number)
+            } else {
+                '*'
+            };
         }
     }
     found

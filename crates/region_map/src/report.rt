@@ -12,7 +12,10 @@ pub impl fmt::Display for Held as HeldDisplay {
         let align = self.block.align;
         let place = self.block.place;
         let address = self.address;
-        write!(f, "block {number}: {size} bytes at alignment {align} from place {place}, address {address}")
+        write!(
+            f,
+            "block {number}: {size} bytes at alignment {align} from place {place}, address {address}"
+        )
     }
 }
 
@@ -36,15 +39,27 @@ pub impl fmt::Display for Outcome as OutcomeDisplay {
 }
 
 fn fate(stayed: bool) -> &'static str {
-    if stayed { "grown where it was" } else { "grown and moved" }
+    if stayed {
+        "grown where it was"
+    } else {
+        "grown and moved"
+    }
 }
 
 fn bytes_fate(came_along: bool) -> &'static str {
-    if came_along { "came along" } else { "WERE LOST" }
+    if came_along {
+        "came along"
+    } else {
+        "WERE LOST"
+    }
 }
 
 fn kept_or_not(kept: bool) -> &'static str {
-    if kept { "touched by nobody else" } else { "OVERWRITTEN BY OTHERS" }
+    if kept {
+        "touched by nobody else"
+    } else {
+        "OVERWRITTEN BY OTHERS"
+    }
 }
 
 pub impl fmt::Display for Closing as ClosingDisplay {
@@ -53,16 +68,25 @@ pub impl fmt::Display for Closing as ClosingDisplay {
         let grown = self.tally.grown;
         let given = self.tally.given;
         let refused = self.tally.refused;
-        writeln!(f, "The day: {taken} blocks taken, {grown} growths, {given} blocks given back, {refused} calls refused.")?;
+        writeln!(
+            f,
+            "The day: {taken} blocks taken, {grown} growths, {given} blocks given back, {refused} calls refused."
+        )?;
         let fullest = self.tally.fullest;
         let extent = self.extent;
-        writeln!(f, "At its fullest the region held {fullest} of {extent} bytes.")?;
+        writeln!(
+            f,
+            "At its fullest the region held {fullest} of {extent} bytes."
+        )?;
         let left = self.blocks_left;
         let bytes = self.bytes_left;
         if left == 0 {
             write!(f, "Every block came back.")
         } else {
-            write!(f, "Blocks that did not come back: {left}, with {bytes} bytes.")
+            write!(
+                f,
+                "Blocks that did not come back: {left}, with {bytes} bytes."
+            )
         }
     }
 }
