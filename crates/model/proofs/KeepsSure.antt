@@ -1,6 +1,6 @@
 -- Between calls a store is sure: from the law over runs, with a table spelled from the region's own bytes.
-use mathlib.Core.Bool.{Bool, true, false, cond}
-use mathlib.Core.List.{List, [], _∷_}
+use mathlib.Core.List.{[]}
+use mathlib.Core.List.{map, List}
 use mathlib.Core.Path.{_≡_, refl, sym, ap, subst, _∙_}
 use Prim.Native.Nat.{ℕ, _-_, _*_}
 use native.Mathlib.Omega.{arith}
@@ -12,48 +12,40 @@ use Rattle.std.specs.declared.option.Option.the-variants.{Some, None}
 use Rattle.std.proofs.shelf.Tests.{eqb-true, not-false}
 use Rattle.region.proofs.Writes.{length-part}
 use Rattle.allocation.specs.declared.block.Block.{Block}
-use Rattle.allocation.specs.Meaning.{Lawful}
+use Rattle.allocation.specs.Meaning.{Among, Lawful}
 use Rattle.model.specs.declared.line.Line.{Line}
 use Rattle.model.specs.Answers.{Answers}
 use Rattle.model.specs.Book.{State, block-of, look-up, serial-of, shown}
 use Rattle.model.specs.Calls.{Answer, Call, granted, refused}
 use Rattle.model.specs.Checks.{checks}
-use Rattle.model.specs.Invariant.{Sure-of}
-use Rattle.model.specs.Keyed.{find}
+use Rattle.model.specs.Invariant.{Plain, Sure, Sure-of}
+use Rattle.model.specs.Keyed.{Rising, find}
+use Rattle.model.specs.Laws.{Invariant-law}
 use Rattle.model.specs.Patterns.{chunks}
 use Rattle.model.specs.Pedigree.{Row, Table, feed, key-of, row}
-use Rattle.model.specs.Runs.{Sound}
+use Rattle.model.specs.Runs.{In, Reached, Sound, Store, World}
 use Rattle.model.proofs.Checks.{passed}
 use Rattle.model.proofs.Fitting.{shown-is, shown-none, sits-off, sits-on}
 use Rattle.model.proofs.Invariant.{Fits, Inv}
-use Rattle.model.proofs.Law.{answered, lines-answered}
+use Rattle.model.proofs.Keyed.{find-map, find-nil, mapped}
+use Rattle.model.proofs.Law.{answered, good-in, lines-answered, reached}
 use Rattle.model.proofs.LineLaw.{Lines-keep}
 use Rattle.model.proofs.Patterns.{even-chunks, joined-chunks, length-chunks}
 use Rattle.model.proofs.Shapes.{never}
+use Rattle.model.proofs.Strip.{strip}
 
 -- the row that a line's own bytes spell
 abbrev pub row-of : ℕ → List ℕ → Line → Row
 row-of base xs l = record { serial = l .serial; kind = l .kind; list = chunks (l .kind .width) (l .len) (shown base l xs); block = block-of (l .backing) }
 
 abbrev pub rows-of : ℕ → List ℕ → List Line → Table
-rows-of base xs [] = []
-rows-of base xs (l ∷ ls) = row-of base xs l ∷ rows-of base xs ls
+rows-of base xs ls = map (row-of base xs) ls
 
-abbrev opt : ℕ → List ℕ → Option Line → Option Row
-opt base xs None = None
-opt base xs (Some l) = Some (row-of base xs l)
+row-at : (base : ℕ) (xs : List ℕ) (s : ℕ) (ls : List Line) → row s (rows-of base xs ls) ≡ mapped (row-of base xs) (find serial-of s ls)
+unfolding row key-of
+row-at base xs s ls = find-map serial-of key-of (row-of base xs) (λ l. refl) s ls
 
-row-at : (base : ℕ) (xs : List ℕ) (s : ℕ) (ls : List Line) → row s (rows-of base xs ls) ≡ opt base xs (find serial-of s ls)
-unfolding row key-of find
-row-at base xs s [] = refl
-row-at base xs s (l ∷ ls) = go (eqb (l .serial) s) (row-at base xs s ls)
-  where
-    go : (b : Bool) → find key-of s (rows-of base xs ls) ≡ opt base xs (find serial-of s ls)
-        → cond b (Some (row-of base xs l)) (find key-of s (rows-of base xs ls)) ≡ opt base xs (cond b (Some l) (find serial-of s ls))
-    go true ih = refl
-    go false ih = ih
-
-line-at : (base : ℕ) (xs : List ℕ) (o : Option Line) (r : Row) → opt base xs o ≡ Some r → (l : Line) × (o ≡ Some l)
+line-at : (base : ℕ) (xs : List ℕ) (o : Option Line) (r : Row) → mapped (row-of base xs) o ≡ Some r → (l : Line) × (o ≡ Some l)
 line-at base xs None r e = absurd (never refl e)
 line-at base xs (Some l) r e = (l, refl)
 
@@ -91,7 +83,7 @@ module _ (st : State) (law : Lawful (st .meaning)) (long : length (st .bytes) �
     law = law;
     long = long;
     order = k .order;
-    spelled = λ s l e. (row-of (st .meaning .base) (st .bytes) l, row-at (st .meaning .base) (st .bytes) s (st .lines) ∙ ap (opt (st .meaning .base) (st .bytes)) e, fits s l e);
+    spelled = λ s l e. (row-of (st .meaning .base) (st .bytes) l, row-at (st .meaning .base) (st .bytes) s (st .lines) ∙ ap (mapped (row-of (st .meaning .base) (st .bytes))) e, fits s l e);
     live = λ s r e. line-at (st .meaning .base) (st .bytes) (look-up s st) r (sym (row-at (st .meaning .base) (st .bytes) s (st .lines)) ∙ e);
     held = k .held;
     used = k .used;
@@ -131,3 +123,22 @@ well-on st extent c a st′ (tb, inv, each) s q = (feed tb c a, answered st tb i
 
 pub sure-well : (st : State) → Lawful (st .meaning) → length (st .bytes) ≡ st .meaning .extent → Sure-of st → Well st
 sure-well st law long k = (rows-of (st .meaning .base) (st .bytes) (st .lines), sure-inv st law long k, (k .each, k .counted))
+
+-- a new store
+pub sure-new : (p : Plain) → p .live ≡ [] → Sure 1 [] p
+unfolding Rising Among
+sure-new p e = record {
+  order = tt;
+  counted = record { begun = omega arith; unspent = omega arith; few = omega arith };
+  each = tt;
+  stands = λ s l x. absurd (never (find-nil serial-of s) x);
+  held = λ s l B x b. absurd (never (find-nil serial-of s) x);
+  used = λ B x. absurd (subst (Among B) e x);
+  alone = λ s t l m B d x y b c. absurd (never (find-nil serial-of s) x);
+}
+
+pub sure-reached : (w : World) → Reached w → (s : Store) → In s w → Sure-of (s .state)
+sure-reached w r s i = let f = good-in w (reached w r) s i in inv-sure (s .state) (s .table) (f .0) (f .1)
+
+pub invariant-law : Invariant-law
+invariant-law = (sure-new, sure-reached, keeps-sure, strip)

@@ -1,6 +1,7 @@
 -- What seek finds after each change of a keyed list.
+use Rattle.std.specs.declared.option.Option.{Option}
 use mathlib.Core.Bool.{Bool, true, false, cond}
-use mathlib.Core.List.{List, [], _∷_, _++_}
+use mathlib.Core.List.{List, [], _∷_, _++_, map}
 use Rattle.std.specs.declared.option.Option.the-variants.{Some, None}
 use mathlib.Core.Path.{_≡_, refl, sym, ap, subst, _∙_}
 use Prim.Native.Nat.{ℕ, suc, _+_, _<_, _≤_}
@@ -8,9 +9,59 @@ use native.Mathlib.Omega.{arith}
 use lib.Dec.{eqb}
 use lib.ListN.{length}
 use Rattle.std.proofs.shelf.Tests.{eqb-true, eqb-false, eq-eqb, ne-eqb}
-use Rattle.model.specs.Keyed.{Rising, any-other, find, update, without}
+use Rattle.model.specs.Keyed.{All, Rising, any-other, find, update, without}
+
+pub all-snoc : {X : Type 0} (P : X → Type 0) (xs : List X) (x : X) → All P xs → P x → All P (xs ++ (x ∷ []))
+all-snoc P [] x e k = (k, tt)
+all-snoc P (y ∷ ys) x e k = (e .0, all-snoc P ys x (e .1) k)
+
+abbrev pub mapped : {X Y : Type 0} → (X → Y) → Option X → Option Y
+mapped f None = None
+mapped f (Some x) = Some (f x)
+
+-- what is found among images is the image of what is found
+pub find-map : {X Y : Type 0} (key : X → ℕ) (key′ : Y → ℕ) (f : X → Y) → ((x : X) → key′ (f x) ≡ key x) → (s : ℕ) (xs : List X) → find key′ s (map f xs) ≡ mapped f (find key s xs)
+unfolding find
+find-map key key′ f k s [] = refl
+find-map key key′ f k s (x ∷ xs) = rw (k x) (go (eqb (key x) s) (find-map key key′ f k s xs))
+  where
+    go : (b : Bool) → find key′ s (map f xs) ≡ mapped f (find key s xs) → cond b (Some (f x)) (find key′ s (map f xs)) ≡ mapped f (cond b (Some x) (find key s xs))
+    go true ih = refl
+    go false ih = ih
 
 module _ {X : Type 0} (key : X → ℕ) where
+  pub find-nil : (s : ℕ) → find key s [] ≡ None
+  unfolding find
+  find-nil s = refl
+
+  -- what is so of all is so of what is found
+  pub all-find : (P : X → Type 0) (s : ℕ) (xs : List X) (x : X) → All P xs → find key s xs ≡ Some x → P x
+  unfolding find
+  all-find P s [] x e q = let z : _≡_ {A = ℕ} 0 1 = cc in absurd (omega arith)
+  all-find P s (y ∷ ys) x e q = go (eqb (key y) s) (all-find P s ys x (e .1)) q
+    where
+      go : (b : Bool) → (find key s ys ≡ Some x → P x) → cond b (Some y) (find key s ys) ≡ Some x → P x
+      go true ih f = let z : y ≡ x = cc in subst P z (e .0)
+      go false ih f = ih f
+
+  pub all-update : (P : X → Type 0) (s : ℕ) (f : X → X) (xs : List X) → ((x : X) → P (f x)) → All P xs → All P (update key s f xs)
+  unfolding update
+  all-update P s f [] k e = tt
+  all-update P s f (x ∷ xs) k e = (go (eqb (key x) s), all-update P s f xs k (e .1))
+    where
+      go : (b : Bool) → P (cond b (f x) x)
+      go true = k x
+      go false = e .0
+
+  pub all-without : (P : X → Type 0) (s : ℕ) (xs : List X) → All P xs → All P (without key s xs)
+  unfolding without
+  all-without P s [] e = tt
+  all-without P s (x ∷ xs) e = go (eqb (key x) s) (all-without P s xs (e .1))
+    where
+      go : (b : Bool) → All P (without key s xs) → All P (cond b (without key s xs) (x ∷ without key s xs))
+      go true w = w
+      go false w = (e .0, w)
+
   pub find-key : (s : ℕ) (xs : List X) (x : X) → find key s xs ≡ Some x → key x ≡ s
   unfolding find
   find-key s [] x e = let z : _≡_ {A = ℕ} 0 1 = cc in absurd (omega arith)

@@ -1,4 +1,4 @@
--- Every call keeps the invariant, and the law of pedigrees.
+-- All call keeps the invariant, and the law of pedigrees.
 use Rattle.std.proofs.shelf.Tests.{le-leb}
 use mathlib.Core.Bool.{Bool, true, false, cond, not, _||_}
 use mathlib.Core.List.{List, [], _∷_, _++_}
@@ -29,20 +29,20 @@ use Rattle.model.specs.Book.{State, block-of, line, look-up, serial-of, shared
 use Rattle.model.specs.Calls.{Aligned, AlignedMut, Answer, Append, Call, Claim, Clear, CopyFrom, EmptyShared, EnsureAligned, Freeze, FromBytes, Given, Grant, Inherited, IntoBytes, IntoMut, Of-kind, Read, Release, Reserve, Set, Share, Slice, Take, Truncate, TryIntoMut, WithCapacity, Zeroed, done, granted, read, refused, with-capacity-in}
 use Rattle.model.specs.Checks.{begin, checks, claimed, enough, finish, is-aligned, request-for}
 use Rattle.model.specs.Effects.{Copies, Does, Made, Stays-or, add-line, appended, capacity-in, empty-line, put-line, slice-line, unbacked-line, unfrozen, with-claim, with-serial, written-in, zeros-in}
-use Rattle.model.specs.Invariant.{Each-line}
-use Rattle.model.specs.Keyed.{Rising, find, update}
+use Rattle.model.specs.Invariant.{Kept-line}
+use Rattle.model.specs.Keyed.{All, Rising, find, update}
 use Rattle.model.specs.Kinds.{byte, is-byte}
 use Rattle.model.specs.Laws.{Blocks-law, Kept, Lines-law, Parts-law, Room-law, Rows-law, Shows, Store-law}
 use Rattle.model.specs.Patterns.{Even, joined}
 use Rattle.model.specs.Pedigree.{Row, Table, begins, branch, copied-to, feed, if-any, key-of, last-or, named, range, row, spell, spelling, upon}
 use Rattle.model.specs.Reads.{fails, same, says}
-use Rattle.model.specs.Runs.{Every, In, New, Reached, Sound, Sound-claim, Step, Store, World, here, next, start, there}
+use Rattle.model.specs.Runs.{In, New, Reached, Sound, Sound-claim, Step, Store, World, here, next, start, there}
 use Rattle.model.proofs.Alignments.{alignment-one, max-one, width-one}
 use Rattle.model.proofs.Checks.{Held, Passed, Stopped, and-cases-first, held, line-is, not-not, passed, stopped}
 use Rattle.model.proofs.Fitting.{fits-like, fits-new, sits-off, sits-on}
 use Rattle.model.proofs.Invariant.{Fits, Has-row, Inv}
 use Rattle.model.proofs.Keeps.{cut, fit, freeze, put-value, reclaim, regroup, release, respelled, slice-none, slice-some, unbacked, unfreeze, unused}
-use Rattle.model.proofs.Keyed.{rising-high}
+use Rattle.model.proofs.Keyed.{find-nil, rising-high}
 use Rattle.model.proofs.LineLaw.{Lines-keep, kept-at, kept-line, kept-on}
 use Rattle.model.proofs.Makes.{handed, share}
 use Rattle.model.proofs.Moves.{Only, Rows, only-add, only-put, rows-add, rows-none, rows-then, rows-update}
@@ -302,12 +302,11 @@ unfolding Rising
 falls-none n = tt
 
 line-none : (st : State) (t : ℕ) → st .lines ≡ [] → look-up t st ≡ None
-unfolding find
-line-none st t e = ap (find serial-of t) e
+line-none st t e = ap (find serial-of t) e ∙ find-nil serial-of t
 
 row-none : (tb : Table) (t : ℕ) → tb ≡ [] → row t tb ≡ None
-unfolding row find
-row-none tb t e = ap (find key-of t) e
+unfolding row
+row-none tb t e = ap (find key-of t) e ∙ find-nil key-of t
 
 block-none : (B : Block) → Among B [] → ⊥
 unfolding Among
@@ -349,13 +348,13 @@ new-good s n = record {
     no-block B a = block-none B a
 
 new-lines : (s : Store) → New s → Lines-keep (s .state)
-new-lines s n = (subst Each-line (sym (n .lines)) tt, record { begun = omega (arith, n .first); unspent = omega (arith, n .first); few = omega (arith, ap length (n .lines)) })
+new-lines s n = (subst (All Kept-line) (sym (n .lines)) tt, record { begun = omega (arith, n .first); unspent = omega (arith, n .first); few = omega (arith, ap length (n .lines)) })
 
-every-new : (w : World) → Every New w → Every Fine w
+every-new : (w : World) → All New w → All Fine w
 every-new [] n = tt
 every-new (s ∷ ss) n = ((new-good s (n .0), new-lines s (n .0)), every-new ss (n .1))
 
-pub good-in : (w : World) → Every Fine w → (s : Store) → In s w → Fine s
+pub good-in : (w : World) → All Fine w → (s : Store) → In s w → Fine s
 good-in [] g s i = absurd i
 good-in (x ∷ xs) g s (inl e) = subst Fine e (g .0)
 good-in (x ∷ xs) g s (inr i) = good-in xs (g .1) s i
@@ -364,11 +363,11 @@ pub lines-answered : (st : State) → Lines-keep st → (extent : ℕ) (c : Call
 lines-answered st e extent c (refused n) st′ s (p, q) = subst Lines-keep (sym q) e
 lines-answered st e extent c (granted g) st′ s (p, d) = kept-on st e st′ extent c g s (passed (checks st extent c) p) d
 
-stepped : (w w′ : World) → Step w w′ → Every Fine w → Every Fine w′
+stepped : (w w′ : World) → Step w w′ → All Fine w → All Fine w′
 stepped w w′ (here {s = s} extent c a st′ k x) g = ((answered (s .state) (s .table) (g .0 .0) (g .0 .1) extent c a st′ k x, lines-answered (s .state) (g .0 .1) extent c a st′ k x), g .1)
 stepped w w′ (there {ss = ss} {ss′ = ss′} x) g = (g .0, stepped ss ss′ x (g .1))
 
-pub reached : (w : World) → Reached w → Every Fine w
+pub reached : (w : World) → Reached w → All Fine w
 reached w (start n d) = every-new w n
 reached w (next {w = v} r x) = stepped v w x (reached v r)
 
@@ -401,7 +400,7 @@ whole w ps xs h e q =
     let m : length xs % w ≡ 0 = ap (λ n. n % w) z ∙ mul-mod-left (length ps) w in
     rw (eq-eqb (length xs % w) 0 m) refl
 
-parts-law : Parts-law
+pub parts-law : Parts-law
 parts-law w v rw′ rv s t i j m n g h p q xs ys x y kind =
     let a = seen s (good w rw′ s i) m g p xs x in
     let b = seen t (good v rv t j) n h q ys y in

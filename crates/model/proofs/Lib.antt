@@ -14,5 +14,6 @@ pub mod Makes
 pub mod Reserving
 pub mod Settling
 pub mod Law
-pub mod KeepsSure
+pub mod Values
 pub mod Strip
+pub mod KeepsSure

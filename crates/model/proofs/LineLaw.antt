@@ -1,7 +1,7 @@
 -- Every call keeps the numbers of every line.
 use mathlib.Core.Bool.{_||_}
 use mathlib.Core.Bool.{true≢false, Bool, true, false, cond, not, _&&_}
-use mathlib.Core.List.{List, [], _∷_, _++_}
+use mathlib.Core.List.{List, [], _∷_}
 use Rattle.std.specs.declared.option.Option.{Option}
 use Rattle.std.specs.declared.option.Option.the-variants.{Some, None}
 use mathlib.Core.Path.{_≡_, refl, sym, ap, subst, _∙_}
@@ -24,51 +24,19 @@ use Rattle.model.specs.Book.{State, blank, line, line-limit, look-up, or-blank
 use Rattle.model.specs.Calls.{Aligned, AlignedMut, Append, Call, Claim, Clear, CopyFrom, EmptyShared, EnsureAligned, Freeze, FromBytes, Given, Grant, Inherited, IntoBytes, IntoMut, Of-kind, Read, Release, Reserve, Set, Share, Slice, Take, Truncate, TryIntoMut, WithCapacity, Zeroed}
 use Rattle.model.specs.Checks.{begin, checks, claimed, enough, finish, full, is-aligned}
 use Rattle.model.specs.Effects.{Copies, Does, Made, Reserves, Stays-or, add-line, appended, copied-into, empty-line, end-line, frozen, made, made-as, put-line, relocated, shared-with, shortened, slice-line, start-in, unbacked-line, unfrozen, with-backing, with-bytes, with-claim, with-len, with-meaning, with-serial}
-use Rattle.model.specs.Invariant.{Counted, Each-line, Kept-line}
-use Rattle.model.specs.Keyed.{find, update, without}
+use Rattle.model.specs.Invariant.{Counted, Kept-line}
+use Rattle.model.specs.Keyed.{All}
 use Rattle.model.specs.Kinds.{Sound-kind}
 use Rattle.model.specs.Runs.{Sound, Sound-claim}
 use Rattle.model.proofs.Alignments.{alignment-256, alignment-max, alignment-one, far-multiple, max-one, sound-byte, through}
 use Rattle.model.proofs.Checks.{Passed, held}
-use Rattle.model.proofs.Keyed.{length-update, length-without}
-use Rattle.model.proofs.Shapes.{never}
+use Rattle.model.proofs.Keyed.{all-find, all-snoc, all-update, all-without, length-update, length-without}
 
 abbrev pub Lines-keep : State → Type 0
-Lines-keep st = Each-line (st .lines) × Counted (st .next) (st .lines)
-
-each-update : (s : ℕ) (l : Line) (ls : List Line) → Kept-line l → Each-line ls → Each-line (update serial-of s (λ _. l) ls)
-unfolding update
-each-update s l [] k e = tt
-each-update s l (x ∷ xs) k e = (go (eqb (serial-of x) s), each-update s l xs k (e .1))
-  where
-    go : (b : Bool) → Kept-line (cond b l x)
-    go true = k
-    go false = e .0
-
-each-snoc : (ls : List Line) (l : Line) → Each-line ls → Kept-line l → Each-line (ls ++ (l ∷ []))
-each-snoc [] l e k = (k, tt)
-each-snoc (x ∷ xs) l e k = (e .0, each-snoc xs l (e .1) k)
-
-each-without : (s : ℕ) (ls : List Line) → Each-line ls → Each-line (without serial-of s ls)
-unfolding without
-each-without s [] e = tt
-each-without s (x ∷ xs) e = go (eqb (serial-of x) s) (each-without s xs (e .1))
-  where
-    go : (b : Bool) → Each-line (without serial-of s xs) → Each-line (cond b (without serial-of s xs) (x ∷ without serial-of s xs))
-    go true w = w
-    go false w = (e .0, w)
-
-each-find : (s : ℕ) (ls : List Line) (l : Line) → Each-line ls → find serial-of s ls ≡ Some l → Kept-line l
-unfolding find
-each-find s [] l e q = absurd (never refl q)
-each-find s (x ∷ xs) l e q = go (eqb (serial-of x) s) (each-find s xs l (e .1)) q
-  where
-    go : (b : Bool) → (find serial-of s xs ≡ Some l → Kept-line l) → cond b (Some x) (find serial-of s xs) ≡ Some l → Kept-line l
-    go true ih f = let z : x ≡ l = cc in subst Kept-line z (e .0)
-    go false ih f = ih f
+Lines-keep st = All Kept-line (st .lines) × Counted (st .next) (st .lines)
 
 pub kept-at : (st : State) → Lines-keep st → (n : ℕ) (l : Line) → look-up n st ≡ Some l → Kept-line l
-kept-at st e n l q = each-find n (st .lines) l (e .0) q
+kept-at st e n l q = all-find serial-of Kept-line n (st .lines) l (e .0) q
 
 kept-blank : Kept-line blank
 unfolding blank
@@ -86,11 +54,11 @@ kept-line st e h = go (look-up (h .serial) st) refl
 put-keeps : (st : State) (l : Line) → Kept-line l → Lines-keep st → Lines-keep (put-line st l)
 unfolding put-line
 put-keeps st l k (e, c) =
-    (each-update (l .serial) l (st .lines) k e, record { begun = c .begun; unspent = c .unspent; few = omega (arith, c .few, length-update serial-of (l .serial) (λ _. l) (st .lines)) })
+    (all-update serial-of Kept-line (l .serial) (λ _. l) (st .lines) (λ _. k) e, record { begun = c .begun; unspent = c .unspent; few = omega (arith, c .few, length-update serial-of (l .serial) (λ _. l) (st .lines)) })
 
 end-keeps : (st : State) (a : Meaning) (s : ℕ) → Lines-keep st → Lines-keep (end-line (with-meaning st a) s)
 unfolding end-line with-meaning
-end-keeps st a s (e, c) = (each-without s (st .lines) e, record { begun = c .begun; unspent = c .unspent; few = omega (arith, c .few, length-without serial-of s (st .lines)) })
+end-keeps st a s (e, c) = (all-without serial-of Kept-line s (st .lines) e, record { begun = c .begun; unspent = c .unspent; few = omega (arith, c .few, length-without serial-of s (st .lines)) })
 
 bytes-keep : (st : State) (xs : List ℕ) → Lines-keep st → Lines-keep (with-bytes st xs)
 unfolding with-bytes
@@ -104,7 +72,7 @@ add-keeps : (st : State) (l : Line) → Kept-line l → full st ≡ false → Li
 unfolding add-line
 add-keeps st l k room (e, c) =
     let p = or-parts (leb line-limit (length (st .lines))) (leb serial-limit (st .next)) room in (
-      each-snoc (st .lines) l e k,
+      all-snoc Kept-line (st .lines) l e k,
       record {
         begun = omega (arith, c .begun);
         unspent = omega (arith, leb-false serial-limit (st .next) (p .1));

@@ -20,8 +20,8 @@ use Rattle.model.specs.declared.line.Backing.the-variants.{Owned}
 use Rattle.model.specs.declared.line.Kind.{Kind}
 use Rattle.model.specs.declared.line.Line.{Line}
 use Rattle.model.specs.Book.{block-of, one-backing, serial-of}
-use Rattle.model.specs.Invariant.{Counted, Each-line, Kept-line, Plain, Sits, Stands, Sure}
-use Rattle.model.specs.Keyed.{Rising, any-other, find}
+use Rattle.model.specs.Invariant.{Counted, Kept-line, Plain, Sits, Stands, Sure}
+use Rattle.model.specs.Keyed.{All, Rising, any-other, find}
 use Rattle.model.specs.Kinds.{Sound-kind}
 use Rattle.model.proofs.Backings.{block-one, one-block, same-block-eq, same-block-refl}
 use Rattle.model.proofs.Keeps.{on-block}
@@ -49,7 +49,7 @@ counted n ls t = record { begun = ∥∥₁-elim t le-prop (λ c. c .begun); uns
 kept-line : (l : Line) → ∥ Kept-line l ∥₁ → Kept-line l
 kept-line l t = record { serial = ∥∥₁-elim t le-prop (λ k. k .serial); kind = sound-kind (l .kind) (∥∥₁-map t (λ k. k .kind)); shared = λ q. ∥∥₁-elim t (ℕ-set _ _) (λ k. k .shared q); alignment = ∥∥₁-elim t (exponent-prop greatest-exponent (l .claim)) (λ k. k .alignment); start = ∥∥₁-elim t (ℕ-set _ _) (λ k. k .start); align = ∥∥₁-elim t le-prop (λ k. k .align) }
 
-each : (ls : List Line) → ∥ Each-line ls ∥₁ → Each-line ls
+each : (ls : List Line) → ∥ All Kept-line ls ∥₁ → All Kept-line ls
 each [] t = tt
 each (l ∷ ls) t = (kept-line l (∥∥₁-map t (λ r. r .0)), each ls (∥∥₁-map t (λ r. r .1)))
 

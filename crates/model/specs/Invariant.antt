@@ -11,7 +11,7 @@ use Rattle.allocation.specs.declared.block.Block.{Block}
 use Rattle.allocation.specs.Meaning.{Meaning, Among}
 use Rattle.model.specs.declared.line.Line.{Line}
 use Rattle.model.specs.Book.{State, line-limit, serial-limit, block-of, serial-of}
-use Rattle.model.specs.Keyed.{find, Rising}
+use Rattle.model.specs.Keyed.{All, find, Rising}
 use Rattle.model.specs.Kinds.{Sound-kind}
 
 -- an allocator's meaning without its two rules
@@ -42,10 +42,6 @@ pub record Kept-line (l : Line) : Type 0 where
   pub align : l .kind .align ≤ l .claim
   pub shared : l .mutable ≡ false → l .capacity ≡ 0
 
-abbrev pub Each-line : List Line → Type 0
-Each-line [] = Unit {0}
-Each-line (l ∷ ls) = Kept-line l × Each-line ls
-
 -- serials are counted from 1, and lines are few
 pub record Counted (next : ℕ) (ls : List Line) : Type 0 where
   pub begun : 1 ≤ next
@@ -63,7 +59,7 @@ pub record Stands (base : ℕ) (l : Line) : Type 0 where
 pub record Sure (next : ℕ) (ls : List Line) (p : Plain) : Type 0 where
   pub order : Rising serial-of 0 next ls
   pub counted : Counted next ls
-  pub each : Each-line ls
+  pub each : All Kept-line ls
   pub stands : (s : ℕ) (l : Line) → find serial-of s ls ≡ Some l → Stands (p .base) l
   pub held : (s : ℕ) (l : Line) (b : Block) → find serial-of s ls ≡ Some l → block-of (l .backing) ≡ Some b → Among b (p .live)
   pub used : (b : Block) → Among b (p .live) → (t : ℕ) × (m : Line) × (find serial-of t ls ≡ Some m) × (block-of (m .backing) ≡ Some b)

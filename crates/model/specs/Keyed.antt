@@ -6,6 +6,11 @@ use lib.Dec.{eqb}
 use Rattle.std.specs.declared.option.Option.{Option}
 use Rattle.std.specs.declared.option.Option.the-variants.{Some, None}
 
+-- each thing in the list is so
+abbrev pub All : {X : Type 0} → (X → Type 0) → List X → Type 0
+All P [] = Unit {0}
+All P (x ∷ xs) = P x × All P xs
+
 -- the thing with key s: the one place where a search is defined
 unfoldable pub find : {X : Type 0} → (X → ℕ) → ℕ → List X → Option X
 find key s [] = None

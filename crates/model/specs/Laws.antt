@@ -1,6 +1,6 @@
 -- What holds in every world that a run comes to.
 use mathlib.Core.Bool.{true, false}
-use mathlib.Core.List.{List}
+use mathlib.Core.List.{List, []}
 use mathlib.Core.Logic.{_↔_}
 use mathlib.Core.Path.{_≡_}
 use Prim.Native.Nat.{ℕ, _+_, _*_, _%_, _≤_, _<_, max}
@@ -11,20 +11,21 @@ use Rattle.allocation.specs.Alignments.{Is-alignment}
 use Rattle.allocation.specs.declared.block.Block.{Block}
 use Rattle.allocation.specs.declared.fault.Fault.{Fault}
 use Rattle.allocation.specs.declared.fault.Refusal.the-variants.{NotGranted}
-use Rattle.allocation.specs.Meaning.{Among, end-of}
+use Rattle.allocation.specs.Meaning.{Lawful, Among, end-of}
 use Rattle.allocation.specs.Refusals.{refusal-of}
 use Rattle.model.specs.declared.line.Handle.{Handle}
 use Rattle.model.specs.declared.line.Kind.{Kind}
 use Rattle.model.specs.declared.line.Line.{Line}
 use Rattle.model.specs.Answers.{Answers}
 use Rattle.model.specs.Book.{State, line-limit, serial-limit, block-of, look-up}
-use Rattle.model.specs.Calls.{read, with-capacity-in, preferred-alignment, refused}
+use Rattle.model.specs.Calls.{Call, Answer, read, with-capacity-in, preferred-alignment, refused}
 use Rattle.model.specs.Checks.{checks, refusal}
+use Rattle.model.specs.Invariant.{Plain, Sure, Sure-of}
 use Rattle.model.specs.Kinds.{Sound-kind}
 use Rattle.model.specs.Patterns.{joined}
 use Rattle.model.specs.Pedigree.{Row, row}
 use Rattle.model.specs.Reads.{bytes-of, same, says}
-use Rattle.model.specs.Runs.{Store, World, In, Reached}
+use Rattle.model.specs.Runs.{Sound, Store, World, In, Reached}
 
 -- the live handles are those with a row
 abbrev pub Rows-law : Type 0
@@ -84,3 +85,11 @@ Room-law =
 -- the whole law
 abbrev pub Store-law : Type 0
 Store-law = Rows-law × Lines-law × Parts-law × Blocks-law × Room-law
+
+-- The invariant of a state alone: it holds of a new store and in every world that a run comes to, every call keeps it, and nothing is lost where only its truth is kept.
+abbrev pub Invariant-law : Type 0
+Invariant-law =
+    ((p : Plain) → p .live ≡ [] → Sure 1 [] p)
+    × ((w : World) → Reached w → (s : Store) → In s w → Sure-of (s .state))
+    × ((st : State) (n : ℕ) (c : Call) (a : Answer) (st′ : State) → Lawful (st .meaning) → length (st .bytes) ≡ n → Sound c → Answers st n c a st′ → Sure-of st → Sure-of st′)
+    × ((next : ℕ) (ls : List Line) (p : Plain) → ∥ Sure next ls p ∥₁ → Sure next ls p)

@@ -9,5 +9,6 @@ pub mod Answers
 pub mod Reads
 pub mod Pedigree
 pub mod Runs
-pub mod Laws
 pub mod Invariant
+pub mod Laws
+pub mod Values

@@ -3,6 +3,7 @@ use mathlib.Core.List.{List, [], _∷_, _++_}
 use mathlib.Core.Path.{_≡_}
 use Prim.Native.Nat.{ℕ, zero, suc}
 use lib.ListN.{length, take, drop}
+use Rattle.model.specs.Keyed.{All}
 
 -- the bytes of the patterns, one pattern after another
 unfoldable pub joined : List (List ℕ) → List ℕ
@@ -16,5 +17,4 @@ chunks w (suc n) bytes = take w bytes ∷ chunks w n (drop w bytes)
 
 -- every pattern is w bytes wide
 unfoldable pub Even : ℕ → List (List ℕ) → Type 0
-Even w [] = Unit {0}
-Even w (p ∷ ps) = (length p ≡ w) × Even w ps
+Even w ps = All (λ p. length p ≡ w) ps

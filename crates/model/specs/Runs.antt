@@ -9,6 +9,7 @@ use Rattle.allocation.specs.Meaning.{Lawful}
 use Rattle.model.specs.Answers.{Answers}
 use Rattle.model.specs.Book.{State}
 use Rattle.model.specs.Calls.{Call, WithCapacity, Zeroed, CopyFrom, EmptyShared, Reserve, Append, Truncate, Clear, Set, Take, AlignedMut, Freeze, IntoBytes, FromBytes, Share, Slice, TryIntoMut, IntoMut, Aligned, EnsureAligned, Read, Release, Claim, Given, Inherited, Of-kind, Answer}
+use Rattle.model.specs.Keyed.{All}
 use Rattle.model.specs.Kinds.{Sound-kind}
 use Rattle.model.specs.Patterns.{Even}
 use Rattle.model.specs.Pedigree.{Table, feed}
@@ -64,14 +65,10 @@ abbrev pub In : Store → World → Type 0
 In s [] = ⊥
 In s (x ∷ xs) = (x ≡ s) ⊎ In s xs
 
-abbrev pub Every : (Store → Type 0) → World → Type 0
-Every P [] = Unit {0}
-Every P (s ∷ ss) = P s × Every P ss
-
 -- no two stores have one number
 abbrev pub Different : World → Type 0
 Different [] = Unit {0}
-Different (s ∷ ss) = Every (λ t. t .state .number ≡ s .state .number → ⊥) ss × Different ss
+Different (s ∷ ss) = All (λ t. t .state .number ≡ s .state .number → ⊥) ss × Different ss
 
 -- one call on one store, brought a region of n bytes; its table is fed, and the other stores stay
 pub data Step : World → World → Type 0 where
@@ -80,5 +77,5 @@ pub data Step : World → World → Type 0 where
 
 -- the worlds that runs come to: new stores of different numbers, and then any calls on any of them
 pub data Reached : World → Type 0 where
-  start : {w : World} → Every New w → Different w → Reached w
+  start : {w : World} → All New w → Different w → Reached w
   next : {w w′ : World} → Reached w → Step w w′ → Reached w′
