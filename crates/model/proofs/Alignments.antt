@@ -6,8 +6,10 @@ use native.Mathlib.Nat.{mod-self, mod-eq-zero-of-dvd, dvd-of-mod-eq-zero, dvd-tr
 use native.Mathlib.Omega.{arith}
 use lib.Pow.{pow-pos, pow-mono}
 use Rattle.std.proofs.shelf.Tests.{cases-lt}
-use Rattle.allocation.specs.Alignments.{Is-alignment}
-use Rattle.allocation.proofs.Rounding.{pow-multiple}
+use Rattle.allocation.specs.Alignments.{Is-alignment, greatest-size}
+use Rattle.allocation.specs.Meaning.{Valid}
+use Rattle.allocation.proofs.Rounding.{pow-multiple, round-up-high}
+use Rattle.model.specs.Checks.{request-for}
 use Rattle.model.specs.Kinds.{Is-width, Sound-kind, byte}
 
 pub alignment-one : {a : ℕ} → Is-alignment a → 1 ≤ a
@@ -48,3 +50,7 @@ max-one a p h = omega arith
 -- where a line without a backing starts
 pub far-multiple : (a : ℕ) → Is-alignment a → (2 ^ 63) % a ≡ 0
 far-multiple a p = ap (λ z. (2 ^ 63) % z) (p .2) ∙ pow-multiple 63 (p .0) (omega (arith, p .1))
+
+-- what is asked for at alignment 1 is valid within the limit
+pub valid-for : (n : ℕ) → n ≤ greatest-size → Valid (request-for n)
+valid-for n h = ((0, omega arith, refl), omega (arith, round-up-high n 1 (omega arith)))

@@ -17,7 +17,7 @@ use Rattle.allocation.specs.declared.block.Block.{Block}
 use Rattle.allocation.specs.declared.fault.Fault.{Fault}
 use Rattle.allocation.specs.declared.fault.Fault.the-variants.{Alone}
 use Rattle.allocation.specs.declared.fault.Refusal.the-variants.{PartialElement}
-use Rattle.allocation.specs.Alignments.{greatest-size, round-up}
+use Rattle.allocation.specs.Alignments.{greatest-size}
 use Rattle.allocation.specs.Meaning.{Among}
 use Rattle.allocation.specs.Refusals.{number, refusal-of}
 use Rattle.allocation.proofs.Rounding.{round-up-high, round-up-low}
@@ -37,7 +37,7 @@ use Rattle.model.specs.Patterns.{Even, joined}
 use Rattle.model.specs.Pedigree.{Row, Table, begins, branch, copied-to, feed, if-any, key-of, last-or, named, range, row, spell, spelling, upon}
 use Rattle.model.specs.Reads.{fails, same, says}
 use Rattle.model.specs.Runs.{In, New, Reached, Sound, Sound-claim, Step, Store, World, here, next, start, there}
-use Rattle.model.proofs.Alignments.{alignment-one, max-one, width-one}
+use Rattle.model.proofs.Alignments.{alignment-one, max-one, valid-for, width-one}
 use Rattle.model.proofs.Checks.{Held, Passed, Stopped, and-cases-first, held, line-is, not-not, passed, stopped}
 use Rattle.model.proofs.Fitting.{fits-like, fits-new, sits-off, sits-on}
 use Rattle.model.proofs.Invariant.{Fits, Has-row, Inv}
@@ -375,10 +375,6 @@ pub good : (w : World) → Reached w → (s : Store) → In s w → Good s
 good w r s i = good-in w (reached w r) s i .0
 
 -- what a shown part is
--- a size is a multiple of 1
-round-one : (size : ℕ) → size ≤ greatest-size → round-up size 1 ≤ greatest-size
-round-one size h = omega (arith, round-up-high size 1 (omega arith))
-
 record Seen (h : Handle) (r : Row) (xs : List ℕ) : Type 0 where
   spelled : xs ≡ joined (r .list)
   even : Even (h .kind .width) (r .list)
@@ -416,7 +412,7 @@ parts-law w v rw′ rv s t i j m n g h p q xs ys x y kind =
 rows-law : Rows-law
 rows-law w r s i n =
     let inv = good w r s i in
-    (λ (l, e). let t = inv .spelled n l e in (t .0, t .1), λ (x, e). inv .live n x e)
+    ((λ (l, e). let t = inv .spelled n l e in (t .0, t .1), λ (x, e). inv .live n x e), λ l x e q. let f = fit (s .state) (s .table) inv n l x e q in record { kind = f .kind; len = f .len; block = f .block })
 
 lines-law : Lines-law
 lines-law w r s i = (fine .1 .1 .few, λ n l e. kept n l e)
@@ -486,7 +482,7 @@ room-law w r s i none-live n k c f st′ sound why (e, q) = ⊎-elim (λ (a : st
     refuses = stops (stopped f (checks st n (with-capacity-in k c)) e)
 
     granted-then : size ≤ st .meaning .room → ⊥
-    granted-then a = mathlib.Core.Bool.true≢false (sym (inv .law .first vacant (request-for size) ((0, omega arith, refl), round-one size (refuses .0)) (omega arith) (omega arith)) ∙ refuses .1)
+    granted-then a = mathlib.Core.Bool.true≢false (sym (inv .law .first vacant (request-for size) (valid-for size (refuses .0)) (omega arith) (omega arith)) ∙ refuses .1)
 
 pub store-law : Store-law
 store-law = (rows-law, lines-law, parts-law, blocks-law, room-law)

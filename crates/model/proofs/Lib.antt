@@ -15,5 +15,7 @@ pub mod Reserving
 pub mod Settling
 pub mod Law
 pub mod Values
+pub mod Settled
+pub mod Answering
 pub mod Strip
 pub mod KeepsSure

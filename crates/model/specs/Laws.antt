@@ -27,11 +27,18 @@ use Rattle.model.specs.Pedigree.{Row, row}
 use Rattle.model.specs.Reads.{bytes-of, same, says}
 use Rattle.model.specs.Runs.{Sound, Store, World, In, Reached}
 
--- the live handles are those with a row
+-- a line and a row of one handle: as many elements of the same kind, over the same block
+pub record Agree (l : Line) (r : Row) : Type 0 where
+  pub kind : r .kind ≡ l .kind
+  pub len : length (r .list) ≡ l .len
+  pub block : r .block ≡ block-of (l .backing)
+
+-- the live handles are those with a row, and the row agrees with the line
 abbrev pub Rows-law : Type 0
 Rows-law =
     (w : World) → Reached w → (s : Store) → In s w → (n : ℕ)
-    → ((l : Line) × (look-up n (s .state) ≡ Some l)) ↔ ((r : Row) × (row n (s .table) ≡ Some r))
+    → (((l : Line) × (look-up n (s .state) ≡ Some l)) ↔ ((r : Row) × (row n (s .table) ≡ Some r)))
+    × ((l : Line) (r : Row) → look-up n (s .state) ≡ Some l → row n (s .table) ≡ Some r → Agree l r)
 
 -- what every line keeps: its alignment, and its elements inside its block
 pub record Kept (base : ℕ) (l : Line) : Type 0 where

@@ -12,3 +12,4 @@ pub mod Runs
 pub mod Invariant
 pub mod Laws
 pub mod Values
+pub mod Outcomes
