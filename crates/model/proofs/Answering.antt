@@ -1,15 +1,14 @@
 -- Every call has an answer, whatever allocator does what its rules grant.
-use Prim.Native.Nat.{_/_}
 use mathlib.Core.Bool.{Bool, true, false, cond, not, _&&_, true≢false}
 use mathlib.Core.List.{List, [], _∷_}
 use mathlib.Core.Logic.{inr}
 use mathlib.Core.Path.{_≡_, refl, sym, ap, subst, _∙_}
-use Prim.Native.Nat.{ℕ, _+_, _-_, _*_, _≤_, max}
+use Prim.Native.Nat.{_/_, ℕ, _+_, _-_, _*_, _≤_, max}
 use native.Mathlib.Omega.{arith}
 use lib.Dec.{ltb}
 use lib.ListN.{length}
-use Rattle.std.specs.declared.option.Option.{Option}
 use Rattle.std.specs.declared.option.Option.the-variants.{Some, None}
+use Rattle.std.specs.declared.option.Option.{Option}
 use Rattle.std.proofs.shelf.Tests.{not-false, or-parts, ltb-false}
 use Rattle.region.specs.Bytes.{overwrite, part}
 use Rattle.allocation.specs.declared.block.Block.{Block}

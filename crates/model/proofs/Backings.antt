@@ -1,10 +1,10 @@
 -- Backings and their blocks.
 use mathlib.Core.Bool.{_&&_, Bool, true, false}
-use Rattle.std.specs.declared.option.Option.the-variants.{Some, None}
 use mathlib.Core.Path.{_≡_, refl, subst}
 use Prim.Native.Nat.{ℕ}
 use native.Mathlib.Omega.{arith}
 use lib.Dec.{eqb}
+use Rattle.std.specs.declared.option.Option.the-variants.{Some, None}
 use Rattle.std.proofs.shelf.Tests.{eqb-true, eq-eqb, and-parts}
 use Rattle.allocation.specs.declared.block.Block.{Block}
 use Rattle.allocation.specs.Faults.{same-block}

@@ -1,13 +1,13 @@
 -- What a granted call has passed.
 use mathlib.Core.Bool.{_&&_, Bool, true, false, cond, not}
-use mathlib.Core.List.{List, [], _∷_}
+use mathlib.Core.List.{_++_, List, [], _∷_}
 use mathlib.Core.Logic.{_⊎_, inl, inr}
-use Rattle.std.specs.declared.option.Option.{Option}
-use Rattle.std.specs.declared.option.Option.the-variants.{Some, None}
 use mathlib.Core.Path.{_≡_, refl, sym, ap, _∙_}
 use Prim.Native.Nat.{ℕ}
 use native.Mathlib.Omega.{arith}
 use lib.Dec.{eqb}
+use Rattle.std.specs.declared.option.Option.the-variants.{Some, None}
+use Rattle.std.specs.declared.option.Option.{Option}
 use Rattle.std.proofs.shelf.Tests.{eqb-true, not-false}
 use Rattle.allocation.specs.declared.fault.Fault.{Fault}
 use Rattle.model.specs.declared.line.Handle.{Handle}
@@ -89,3 +89,12 @@ stopped f (c ∷ cs) e = go (stopped f cs) (c .0) refl e
 pub and-cases-first : (a b : Bool) → not (a && b) ≡ false → not a ≡ false
 and-cases-first true b e = refl
 and-cases-first false b e = e
+
+-- checks that do not hold refuse nothing
+pub past : (cs ds : List Check) → Passed cs → refusal (cs ++ ds) ≡ refusal ds
+past [] ds p = refl
+past (c ∷ cs) ds p = ap (λ b. cond b (Some (c .1)) (refusal (cs ++ ds))) (p .0) ∙ past cs ds (p .1)
+
+pub unrefused : (cs : List Check) → Passed cs → refusal cs ≡ None
+unrefused [] p = refl
+unrefused (c ∷ cs) p = ap (λ b. cond b (Some (c .1)) (refusal cs)) (p .0) ∙ unrefused cs (p .1)

@@ -2,8 +2,6 @@
 use mathlib.Core.Bool.{Bool, true, false}
 use mathlib.Core.List.{List, [], _∷_, _++_}
 use mathlib.Core.Logic.{_⊎_, inl, inr, ⊎-elim}
-use Rattle.std.specs.declared.option.Option.{Option}
-use Rattle.std.specs.declared.option.Option.the-variants.{Some, None}
 use mathlib.Core.Path.{_≡_, refl, sym, ap, subst, _∙_}
 use Prim.Native.Nat.{ℕ, _+_, _-_, _*_, _/_, _<_, _≤_}
 use native.Mathlib.Nat.{mul-le-mul-right}
@@ -11,6 +9,8 @@ use native.Mathlib.Omega.{arith}
 use lib.Dec.{leb}
 use lib.ListN.{length, take, drop, set, length-take, length-drop}
 use lib.Seq.{take-all}
+use Rattle.std.specs.declared.option.Option.the-variants.{Some, None}
+use Rattle.std.specs.declared.option.Option.{Option}
 use Rattle.std.proofs.shelf.Lists.{nil-from-length}
 use Rattle.std.proofs.shelf.Tests.{leb-true, leb-false}
 use Rattle.region.specs.Bytes.{Outside, overwrite}
@@ -51,7 +51,11 @@ pub on-block : (B : Block) → block-of (Owned B) ≡ Some B
 unfolding block-of
 on-block B = refl
 
-some-other : (st : State) (s : ℕ) (l : Line) → l .serial ≡ s → Rising serial-of 0 (st .next) (st .lines) → shared-by st l ≡ true
+pub no-other : (st : State) (l : Line) → shared-by st l ≡ false → (t : ℕ) (m : Line) → (t ≡ l .serial → ⊥) → look-up t st ≡ Some m → one-backing (l .backing) (m .backing) ≡ false
+unfolding shared-by
+no-other st l k t m d e = any-other-no serial-of (λ m. one-backing (l .backing) (m .backing)) (l .serial) t (st .lines) m k d e
+
+pub some-other : (st : State) (s : ℕ) (l : Line) → l .serial ≡ s → Rising serial-of 0 (st .next) (st .lines) → shared-by st l ≡ true
     → (t : ℕ) × (m : Line) × (t ≡ s → ⊥) × (look-up t st ≡ Some m) × (one-backing (l .backing) (m .backing) ≡ true)
 unfolding shared-by
 some-other st s l q f k =
@@ -192,9 +196,8 @@ module _ (st : State) (tb : Table) (inv : Inv st tb) where
 
   -- alone on its backing, no other handle is on its block
   sole : (s : ℕ) (l : Line) → l .serial ≡ s → shared-by st l ≡ false → (C : Block) → Other st s C → block-of (l .backing) ≡ Some C → ⊥
-  unfolding shared-by
   sole s l q k C o b =
-      let z = any-other-no serial-of (λ m. one-backing (l .backing) (m .backing)) (l .serial) (o .0) (st .lines) (o .1) k (λ w. o .2 (w ∙ q)) (o .3) in
+      let z = no-other st l k (o .0) (o .1) (λ w. o .2 (w ∙ q)) (o .3) in
       mathlib.Core.Bool.false≢true (sym z ∙ one-block (l .backing) (o .1 .backing) C b (o .4))
 
   pub unfreeze : (s : ℕ) (l : Line) (b : Backing) (tb′ : Table) (e : look-up s st ≡ Some l) → l .serial ≡ s → shared-by st l ≡ false → l .backing ≡ b → Rows tb tb′ s (Some (inv .spelled s l e .0)) → Inv (put-line st (unfrozen st l b)) tb′

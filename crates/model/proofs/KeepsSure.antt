@@ -1,14 +1,13 @@
 -- Between calls a store is sure: from the law over runs, with a table spelled from the region's own bytes.
-use mathlib.Core.List.{[]}
-use mathlib.Core.List.{map, List}
+use mathlib.Core.List.{[], map, List}
 use mathlib.Core.Path.{_≡_, refl, sym, ap, subst, _∙_}
 use Prim.Native.Nat.{ℕ, _-_, _*_}
-use native.Mathlib.Omega.{arith}
 use native.Mathlib.Nat.{zero-mul}
+use native.Mathlib.Omega.{arith}
 use lib.Dec.{eqb}
 use lib.ListN.{length}
-use Rattle.std.specs.declared.option.Option.{Option}
 use Rattle.std.specs.declared.option.Option.the-variants.{Some, None}
+use Rattle.std.specs.declared.option.Option.{Option}
 use Rattle.std.proofs.shelf.Tests.{eqb-true, not-false}
 use Rattle.region.proofs.Writes.{length-part}
 use Rattle.allocation.specs.declared.block.Block.{Block}

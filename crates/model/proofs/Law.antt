@@ -1,22 +1,21 @@
 -- All call keeps the invariant, and the law of pedigrees.
-use Rattle.std.proofs.shelf.Tests.{le-leb}
-use mathlib.Core.Bool.{Bool, true, false, cond, not, _||_}
-use mathlib.Core.List.{List, [], _∷_, _++_}
+use mathlib.Core.Bool.{_&&_, Bool, true, false, cond, not, _||_}
+use mathlib.Core.List.{_++_, List, [], _∷_}
 use mathlib.Core.Logic.{_⊎_, inl, inr, ⊎-elim}
-use Rattle.std.specs.declared.option.Option.the-variants.{Some, None}
 use mathlib.Core.Path.{_≡_, refl, sym, ap, subst, _∙_}
-use Prim.Native.Nat.{ℕ, _+_, _-_, _*_, _/_, _%_, _<_, _≤_, max}
+use Prim.Native.Nat.{_^_, ℕ, _+_, _-_, _*_, _/_, _%_, _<_, _≤_, max}
 use native.Mathlib.Nat.{mul-mod-left, zero-mul, mul-le-mul-right, div-add-mod'}
 use native.Mathlib.Omega.{arith}
 use lib.Dec.{eqb, ltb, leb}
 use lib.ListN.{length, take, drop, replicate, length-replicate}
-use Rattle.std.proofs.shelf.Tests.{cases-lt, eq-eqb, eqb-true, not-false, not-true, and-parts, leb-false, ltb-true, ltb-false}
+use Rattle.std.specs.declared.option.Option.the-variants.{Some, None}
+use Rattle.std.proofs.shelf.Tests.{le-ltb, lt-leb, le-leb, cases-lt, eq-eqb, eqb-true, not-false, not-true, and-parts, leb-false, ltb-true, ltb-false}
 use Rattle.region.specs.Bytes.{equal}
 use Rattle.region.proofs.Writes.{equal-decides}
 use Rattle.allocation.specs.declared.block.Block.{Block}
 use Rattle.allocation.specs.declared.fault.Fault.{Fault}
 use Rattle.allocation.specs.declared.fault.Fault.the-variants.{Alone}
-use Rattle.allocation.specs.declared.fault.Refusal.the-variants.{PartialElement}
+use Rattle.allocation.specs.declared.fault.Refusal.the-variants.{BackingShared, NoHandleLeft, PartialElement, RegionDiffers, UnknownHandle}
 use Rattle.allocation.specs.Alignments.{greatest-size}
 use Rattle.allocation.specs.Meaning.{Among}
 use Rattle.allocation.specs.Refusals.{number, refusal-of}
@@ -25,24 +24,24 @@ use Rattle.model.specs.declared.line.Bound.{Bound}
 use Rattle.model.specs.declared.line.Handle.{Handle}
 use Rattle.model.specs.declared.line.Line.{Line}
 use Rattle.model.specs.Answers.{Answers}
-use Rattle.model.specs.Book.{State, block-of, line, look-up, serial-of, shared-by}
-use Rattle.model.specs.Calls.{Aligned, AlignedMut, Answer, Append, Call, Claim, Clear, CopyFrom, EmptyShared, EnsureAligned, Freeze, FromBytes, Given, Grant, Inherited, IntoBytes, IntoMut, Of-kind, Read, Release, Reserve, Set, Share, Slice, Take, Truncate, TryIntoMut, WithCapacity, Zeroed, done, granted, read, refused, with-capacity-in}
-use Rattle.model.specs.Checks.{begin, checks, claimed, enough, finish, is-aligned, request-for}
+use Rattle.model.specs.Book.{State, block-of, known, line, line-limit, look-up, serial-limit, serial-of, shared-by}
+use Rattle.model.specs.Calls.{Aligned, AlignedMut, Answer, Append, Call, Claim, Clear, CopyFrom, EmptyShared, EnsureAligned, Freeze, FromBytes, Given, Grant, Inherited, IntoBytes, IntoMut, Of-kind, Read, Release, Reserve, Set, Share, Slice, Take, Truncate, TryIntoMut, WithCapacity, Zeroed, done, granted, read, refused, try-into-mut, with-capacity-in}
+use Rattle.model.specs.Checks.{begin, checks, claimed, enough, finish, full, is-aligned, refusal, request-for}
 use Rattle.model.specs.Effects.{Copies, Does, Made, Stays-or, add-line, appended, capacity-in, empty-line, put-line, slice-line, unbacked-line, unfrozen, with-claim, with-serial, written-in, zeros-in}
 use Rattle.model.specs.Invariant.{Kept-line}
 use Rattle.model.specs.Keyed.{All, Rising, find, update}
 use Rattle.model.specs.Kinds.{byte, is-byte}
-use Rattle.model.specs.Laws.{Blocks-law, Kept, Lines-law, Parts-law, Room-law, Rows-law, Shows, Store-law}
+use Rattle.model.specs.Laws.{Blocks-law, Grant-law, Has-other, Kept, Lines-law, Parts-law, Room-law, Rows-law, Sharing-law, Shows, Store-law, asked-bytes}
 use Rattle.model.specs.Patterns.{Even, joined}
 use Rattle.model.specs.Pedigree.{Row, Table, begins, branch, copied-to, feed, if-any, key-of, last-or, named, range, row, spell, spelling, upon}
 use Rattle.model.specs.Reads.{fails, same, says}
 use Rattle.model.specs.Runs.{In, New, Reached, Sound, Sound-claim, Step, Store, World, here, next, start, there}
 use Rattle.model.proofs.Alignments.{alignment-one, max-one, valid-for, width-one}
-use Rattle.model.proofs.Checks.{Held, Passed, Stopped, and-cases-first, held, line-is, not-not, passed, stopped}
+use Rattle.model.proofs.Checks.{Held, Passed, Stopped, and-cases-first, held, line-is, not-not, passed, past, stopped, unrefused}
 use Rattle.model.proofs.Fitting.{fits-like, fits-new, sits-off, sits-on}
 use Rattle.model.proofs.Invariant.{Fits, Has-row, Inv}
-use Rattle.model.proofs.Keeps.{cut, fit, freeze, put-value, reclaim, regroup, release, respelled, slice-none, slice-some, unbacked, unfreeze, unused}
-use Rattle.model.proofs.Keyed.{find-nil, rising-high}
+use Rattle.model.proofs.Keeps.{cut, fit, freeze, no-other, put-value, reclaim, regroup, release, respelled, slice-none, slice-some, some-other, unbacked, unfreeze, unused}
+use Rattle.model.proofs.Keyed.{find-cons, find-nil, rising-high}
 use Rattle.model.proofs.LineLaw.{Lines-keep, kept-at, kept-line, kept-on}
 use Rattle.model.proofs.Makes.{handed, share}
 use Rattle.model.proofs.Moves.{Only, Rows, only-add, only-put, rows-add, rows-none, rows-then, rows-update}
@@ -484,5 +483,67 @@ room-law w r s i none-live n k c f st′ sound why (e, q) = ⊎-elim (λ (a : st
     granted-then : size ≤ st .meaning .room → ⊥
     granted-then a = mathlib.Core.Bool.true≢false (sym (inv .law .first vacant (request-for size) (valid-for size (refuses .0)) (omega arith) (omega arith)) ∙ refuses .1)
 
+sharing-law : Sharing-law
+sharing-law w r s i n h ok shared = (λ e. other (shared-by st l) refl (sym only ∙ e), λ o. only ∙ refuses (shared-by st l) refl o)
+  where
+    st : State
+    st = s .state
+
+    inv : Good s
+    inv = good w r s i
+
+    ps : Passed (checks st n (read h))
+    ps = passed (checks st n (read h)) ok
+
+    l : Line
+    l = line st h
+
+    k : Held st h
+    k = held st h (ps .1 .1 .0)
+
+    -- only the last check is left
+    only : refusal (checks st n (try-into-mut h)) ≡ refusal ((shared-by st l, Alone BackingShared) ∷ [])
+    only = past ((not (eqb n (st .meaning .extent)), Alone RegionDiffers) ∷ (not (not (h .mutable)), Alone UnknownHandle) ∷ (not (known st h), Alone UnknownHandle) ∷ (false && full st, Alone NoHandleLeft) ∷ [])
+        ((shared-by st l, Alone BackingShared) ∷ []) (ps .0, (ap (λ b. not (not b)) shared, (ps .1 .1 .0, (refl, tt))))
+
+    other : (b : Bool) → shared-by st l ≡ b → cond b (Some (Alone BackingShared)) None ≡ Some (Alone BackingShared) → Has-other st l
+    other true q e = some-other st (l .serial) l refl (inv .order) q
+    other false q e = absurd (never refl e)
+
+    refuses : (b : Bool) → shared-by st l ≡ b → Has-other st l → cond b (Some (Alone BackingShared)) None ≡ Some (Alone BackingShared)
+    refuses true q o = refl
+    refuses false q o = absurd (mathlib.Core.Bool.true≢false (sym (o .4) ∙ no-other st l q (o .0) (o .1) (o .2) (o .3)))
+
+nothing-live : (ls : List Line) → ((t : ℕ) → find serial-of t ls ≡ None) → ls ≡ []
+nothing-live [] e = refl
+nothing-live (l ∷ ls) e = absurd (never (e (l .serial)) (find-cons serial-of l ls))
+
+grant-law : Grant-law
+grant-law w r s i none-live n k c sound long left room small =
+    unrefused (checks st n (with-capacity-in k c))
+    (ap not (eq-eqb n (st .meaning .extent) long), (refl, (not-full, (le-ltb (k .align) (k .align) (omega arith), (lt-leb (2 ^ 64) size (omega arith), (le-ltb greatest-size size small, (yields (ltb 0 c), tt)))))))
+  where
+    st : State
+    st = s .state
+
+    size : ℕ
+    size = asked-bytes k c
+
+    inv : Good s
+    inv = good w r s i
+
+    vacant : (B : Block) → Among B (st .meaning .live) → ⊥
+    vacant B a = let u = inv .used B a in never (none-live (u .0)) (u .2)
+
+    not-full : full st ≡ false
+    not-full = (λ j. leb line-limit (length (nothing-live (st .lines) none-live j)) || leb serial-limit (st .next)) ∙ lt-leb serial-limit (st .next) left
+
+    grants : st .meaning .grants (request-for size) ≡ true
+    grants = inv .law .first vacant (request-for size) (valid-for size small) (omega arith) (omega arith)
+
+    yields : (b : Bool) → (b && not (st .meaning .grants (request-for size))) ≡ false
+    yields true = ap not grants
+    yields false = refl
+
 pub store-law : Store-law
-store-law = (rows-law, lines-law, parts-law, blocks-law, room-law)
+store-law = (rows-law, lines-law, parts-law, blocks-law, sharing-law, room-law, grant-law)

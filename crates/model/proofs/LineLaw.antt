@@ -1,15 +1,14 @@
 -- Every call keeps the numbers of every line.
-use mathlib.Core.Bool.{_||_}
-use mathlib.Core.Bool.{true≢false, Bool, true, false, cond, not, _&&_}
+use mathlib.Core.Bool.{_||_, true≢false, Bool, true, false, cond, not, _&&_}
 use mathlib.Core.List.{List, [], _∷_}
-use Rattle.std.specs.declared.option.Option.{Option}
-use Rattle.std.specs.declared.option.Option.the-variants.{Some, None}
 use mathlib.Core.Path.{_≡_, refl, sym, ap, subst, _∙_}
 use Prim.Native.Nat.{ℕ, _+_, _-_, _*_, _%_, _≤_, max}
 use native.Mathlib.Nat.{zero-mul, mod-self}
 use native.Mathlib.Omega.{arith}
 use lib.Dec.{eqb, ltb, leb}
 use lib.ListN.{length, length-append}
+use Rattle.std.specs.declared.option.Option.the-variants.{Some, None}
+use Rattle.std.specs.declared.option.Option.{Option}
 use Rattle.std.proofs.shelf.Tests.{or-parts, leb-false, eqb-true, not-false, ltb-false}
 use Rattle.allocation.specs.declared.block.Block.{Block}
 use Rattle.allocation.specs.Alignments.{Is-alignment, round-up}

@@ -1,14 +1,11 @@
 -- Lists of values and lists of their patterns.
 use mathlib.Core.List.{List, [], _∷_, _++_, map}
-use mathlib.Core.Logic.{_↔_}
 use mathlib.Core.Path.{_≡_, refl, sym, ap, _∙_}
 use Prim.Native.Nat.{ℕ, _≤_}
 use native.Mathlib.Omega.{arith}
-use lib.ListN.{length}
 use Rattle.std.specs.Joined.{joined as joined-by}
-use Rattle.model.specs.Keyed.{All}
-use Rattle.model.specs.Patterns.{joined, Even}
-use Rattle.model.specs.Values.{Bytes, Coding, Lists-agree, Bytes-agree, Values-exist, Parts-agree, Values-law}
+use Rattle.model.specs.Patterns.{Even, joined}
+use Rattle.model.specs.Values.{Bytes, Bytes-agree, Coding, Lists-agree, Parts-agree, Values-exist, Values-law}
 use Rattle.model.proofs.Law.{parts-law}
 use Rattle.model.proofs.Patterns.{joined-one-to-one}
 

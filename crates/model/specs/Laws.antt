@@ -7,18 +7,19 @@ use Prim.Native.Nat.{ℕ, _+_, _*_, _%_, _≤_, _<_, max}
 use lib.ListN.{length}
 use Rattle.std.specs.declared.option.Option.the-variants.{Some, None}
 use Rattle.region.specs.Bytes.{equal}
-use Rattle.allocation.specs.Alignments.{Is-alignment}
+use Rattle.allocation.specs.Alignments.{Is-alignment, greatest-size}
 use Rattle.allocation.specs.declared.block.Block.{Block}
 use Rattle.allocation.specs.declared.fault.Fault.{Fault}
-use Rattle.allocation.specs.declared.fault.Refusal.the-variants.{NotGranted}
+use Rattle.allocation.specs.declared.fault.Fault.the-variants.{Alone}
+use Rattle.allocation.specs.declared.fault.Refusal.the-variants.{NotGranted, BackingShared}
 use Rattle.allocation.specs.Meaning.{Lawful, Among, end-of}
 use Rattle.allocation.specs.Refusals.{refusal-of}
 use Rattle.model.specs.declared.line.Handle.{Handle}
 use Rattle.model.specs.declared.line.Kind.{Kind}
 use Rattle.model.specs.declared.line.Line.{Line}
 use Rattle.model.specs.Answers.{Answers}
-use Rattle.model.specs.Book.{State, line-limit, serial-limit, block-of, look-up}
-use Rattle.model.specs.Calls.{Call, Answer, read, with-capacity-in, preferred-alignment, refused}
+use Rattle.model.specs.Book.{State, line-limit, serial-limit, block-of, one-backing, look-up, line}
+use Rattle.model.specs.Calls.{Call, Answer, read, try-into-mut, with-capacity-in, preferred-alignment, refused}
 use Rattle.model.specs.Checks.{checks, refusal}
 use Rattle.model.specs.Invariant.{Plain, Sure, Sure-of}
 use Rattle.model.specs.Kinds.{Sound-kind}
@@ -82,16 +83,38 @@ Blocks-law =
     (w : World) → Reached w → (s : Store) → In s w → (b : Block)
     → Among b (s .state .meaning .live) ↔ ((n : ℕ) × (r : Row) × (row n (s .table) ≡ Some r) × (r .block ≡ Some b))
 
+-- another live handle is on the backing of a line
+abbrev pub Has-other : State → Line → Type 0
+Has-other st l = (t : ℕ) × (m : Line) × (t ≡ l .serial → ⊥) × (look-up t st ≡ Some m) × (one-backing (l .backing) (m .backing) ≡ true)
+
+-- `try_into_mut` of a live shared handle is refused exactly where another live handle is on its backing
+abbrev pub Sharing-law : Type 0
+Sharing-law =
+    (w : World) → Reached w → (s : Store) → In s w
+    → (n : ℕ) (h : Handle) → refusal (checks (s .state) n (read h)) ≡ None → h .mutable ≡ false
+    → (refusal (checks (s .state) n (try-into-mut h)) ≡ Some (Alone BackingShared)) ↔ Has-other (s .state) (line (s .state) h)
+
+-- what `with_capacity_in` asks for
+abbrev pub asked-bytes : Kind → ℕ → ℕ
+asked-bytes k c = c * k .width + max (k .align) preferred-alignment
+
 -- with no live handle, `with_capacity_in` is not granted only where it asks for more bytes than the allocator's room
 abbrev pub Room-law : Type 0
 Room-law =
-    (w : World) → Reached w → (s : Store) → In s w → ((n : ℕ) → look-up n (s .state) ≡ None)
+    (w : World) → Reached w → (s : Store) → In s w → ((t : ℕ) → look-up t (s .state) ≡ None)
     → (n : ℕ) (k : Kind) (c : ℕ) (f : Fault) (st′ : State) → Sound-kind k → refusal-of f ≡ NotGranted
-    → Answers (s .state) n (with-capacity-in k c) (refused f) st′ → s .state .meaning .room < c * k .width + max (k .align) preferred-alignment
+    → Answers (s .state) n (with-capacity-in k c) (refused f) st′ → s .state .meaning .room < asked-bytes k c
+
+-- and what fits the room is granted, while serials last
+abbrev pub Grant-law : Type 0
+Grant-law =
+    (w : World) → Reached w → (s : Store) → In s w → ((t : ℕ) → look-up t (s .state) ≡ None)
+    → (n : ℕ) (k : Kind) (c : ℕ) → Sound-kind k → n ≡ s .state .meaning .extent → s .state .next < serial-limit
+    → asked-bytes k c ≤ s .state .meaning .room → asked-bytes k c ≤ greatest-size → refusal (checks (s .state) n (with-capacity-in k c)) ≡ None
 
 -- the whole law
 abbrev pub Store-law : Type 0
-Store-law = Rows-law × Lines-law × Parts-law × Blocks-law × Room-law
+Store-law = Rows-law × Lines-law × Parts-law × Blocks-law × Sharing-law × Room-law × Grant-law
 
 -- The invariant of a state alone: it holds of a new store and in every world that a run comes to, every call keeps it, and nothing is lost where only its truth is kept.
 abbrev pub Invariant-law : Type 0
