@@ -31,7 +31,7 @@ use Rattle.model.specs.Effects.{Copies, Does, Made, Stays-or, add-line, append
 use Rattle.model.specs.Invariant.{Kept-line}
 use Rattle.model.specs.Keyed.{All, Rising, find, update}
 use Rattle.model.specs.Kinds.{byte, is-byte}
-use Rattle.model.specs.Laws.{Blocks-law, Grant-law, Has-other, Kept, Lines-law, Parts-law, Room-law, Rows-law, Sharing-law, Shows, Store-law, asked-bytes}
+use Rattle.model.specs.Laws.{Blocks-law, Fresh-law, Grant-law, Has-other, Kept, Lines-law, Parts-law, Room-law, Rows-law, Sharing-law, Shows, Store-law, asked-bytes}
 use Rattle.model.specs.Patterns.{Even, joined}
 use Rattle.model.specs.Pedigree.{Row, Table, begins, branch, copied-to, feed, if-any, key-of, last-or, named, range, row, spell, spelling, upon}
 use Rattle.model.specs.Reads.{fails, same, says}
@@ -39,6 +39,7 @@ use Rattle.model.specs.Runs.{In, New, Reached, Sound, Sound-claim, Step, Store
 use Rattle.model.proofs.Alignments.{alignment-one, max-one, valid-for, width-one}
 use Rattle.model.proofs.Checks.{Held, Passed, Stopped, and-cases-first, held, line-is, not-not, passed, past, stopped, unrefused}
 use Rattle.model.proofs.Fitting.{fits-like, fits-new, sits-off, sits-on}
+use Rattle.model.proofs.Fresh.{clear-of}
 use Rattle.model.proofs.Invariant.{Fits, Has-row, Inv}
 use Rattle.model.proofs.Keeps.{cut, fit, freeze, no-other, put-value, reclaim, regroup, release, respelled, slice-none, slice-some, some-other, unbacked, unfreeze, unused}
 use Rattle.model.proofs.Keyed.{find-cons, find-nil, rising-high}
@@ -483,6 +484,9 @@ room-law w r s i none-live n k c f st′ sound why (e, q) = ⊎-elim (λ (a : st
     granted-then : size ≤ st .meaning .room → ⊥
     granted-then a = mathlib.Core.Bool.true≢false (sym (inv .law .first vacant (request-for size) (valid-for size (refuses .0)) (omega arith) (omega arith)) ∙ refuses .1)
 
+fresh-law : Fresh-law
+fresh-law w r s i mark n c g st′ (e, d) b d′ x y = clear-of (s .state) (good w r s i .law) mark c g st′ d b d′ x y
+
 sharing-law : Sharing-law
 sharing-law w r s i n h ok shared = (λ e. other (shared-by st l) refl (sym only ∙ e), λ o. only ∙ refuses (shared-by st l) refl o)
   where
@@ -546,4 +550,4 @@ grant-law w r s i none-live n k c sound long left room small =
     yields false = refl
 
 pub store-law : Store-law
-store-law = (rows-law, lines-law, parts-law, blocks-law, sharing-law, room-law, grant-law)
+store-law = (rows-law, lines-law, parts-law, blocks-law, fresh-law, sharing-law, room-law, grant-law)

@@ -13,6 +13,7 @@ pub mod Keeps
 pub mod Makes
 pub mod Reserving
 pub mod Settling
+pub mod Fresh
 pub mod Law
 pub mod Values
 pub mod Settled

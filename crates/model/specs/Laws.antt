@@ -12,14 +12,14 @@ use Rattle.allocation.specs.declared.block.Block.{Block}
 use Rattle.allocation.specs.declared.fault.Fault.{Fault}
 use Rattle.allocation.specs.declared.fault.Fault.the-variants.{Alone}
 use Rattle.allocation.specs.declared.fault.Refusal.the-variants.{NotGranted, BackingShared}
-use Rattle.allocation.specs.Meaning.{Lawful, Among, end-of}
+use Rattle.allocation.specs.Meaning.{Lawful, Among, Apart, end-of}
 use Rattle.allocation.specs.Refusals.{refusal-of}
 use Rattle.model.specs.declared.line.Handle.{Handle}
 use Rattle.model.specs.declared.line.Kind.{Kind}
 use Rattle.model.specs.declared.line.Line.{Line}
 use Rattle.model.specs.Answers.{Answers}
 use Rattle.model.specs.Book.{State, line-limit, serial-limit, block-of, one-backing, look-up, line}
-use Rattle.model.specs.Calls.{Call, Answer, read, try-into-mut, with-capacity-in, preferred-alignment, refused}
+use Rattle.model.specs.Calls.{Call, Grant, Answer, granted, read, try-into-mut, with-capacity-in, preferred-alignment, refused}
 use Rattle.model.specs.Checks.{checks, refusal}
 use Rattle.model.specs.Invariant.{Plain, Sure, Sure-of}
 use Rattle.model.specs.Kinds.{Sound-kind}
@@ -83,6 +83,13 @@ Blocks-law =
     (w : World) → Reached w → (s : Store) → In s w → (b : Block)
     → Among b (s .state .meaning .live) ↔ ((n : ℕ) × (r : Row) × (row n (s .table) ≡ Some r) × (r .block ≡ Some b))
 
+-- with the copying mark, a block that a call gets shares no byte with any that was live before it: an old block goes back only when the new one is there
+abbrev pub Fresh-law : Type 0
+Fresh-law =
+    (w : World) → Reached w → (s : Store) → In s w → s .state .meaning .copies ≡ true
+    → (n : ℕ) (c : Call) (g : Grant) (st′ : State) → Answers (s .state) n c (granted g) st′
+    → (b d : Block) → Among b (g .blocks) → Among d (s .state .meaning .live) → Apart b d
+
 -- another live handle is on the backing of a line
 abbrev pub Has-other : State → Line → Type 0
 Has-other st l = (t : ℕ) × (m : Line) × (t ≡ l .serial → ⊥) × (look-up t st ≡ Some m) × (one-backing (l .backing) (m .backing) ≡ true)
@@ -114,7 +121,7 @@ Grant-law =
 
 -- the whole law
 abbrev pub Store-law : Type 0
-Store-law = Rows-law × Lines-law × Parts-law × Blocks-law × Sharing-law × Room-law × Grant-law
+Store-law = Rows-law × Lines-law × Parts-law × Blocks-law × Fresh-law × Sharing-law × Room-law × Grant-law
 
 -- The invariant of a state alone: it holds of a new store and in every world that a run comes to, every call keeps it, and nothing is lost where only its truth is kept.
 abbrev pub Invariant-law : Type 0
