@@ -41,6 +41,9 @@ alignment-max a p (i, _, e) (j, _, f) = ⊎-elim (λ (h : i < j). above h) (λ h
         let m : max a p ≡ a = omega (arith, e, f) in
         ap (λ z. z % a) m ∙ mod-self a
 
+pub alignment-1 : Is-alignment 1
+alignment-1 = (0, omega arith, refl)
+
 pub alignment-256 : Is-alignment 256
 alignment-256 = (8, omega arith, refl)
 

@@ -30,8 +30,8 @@ use Rattle.model.proofs.Alignments.{alignment-one, max-one, valid-for}
 use Rattle.model.proofs.Checks.{Passed, held, passed}
 use Rattle.model.proofs.Getting.{obtained}
 use Rattle.model.proofs.Invariant.{Inv}
-use Rattle.model.proofs.Law.{good-in, reached}
-use Rattle.model.proofs.LineLaw.{Lines-keep}
+use Rattle.model.proofs.Lines.{Lines-keep}
+use Rattle.model.proofs.Runs.{holds-in, reached-holds}
 use Rattle.model.proofs.Shapes.{never}
 
 module _ {B : Type 0} (meaning : B → Meaning) (able : Able meaning) (st : State) (tb : Table) (inv : Inv st tb) (each : Lines-keep st) (a : B) (tie : meaning a ≡ st .meaning) where
@@ -242,4 +242,4 @@ module _ {B : Type 0} (meaning : B → Meaning) (able : Able meaning) (st : Stat
       go None e = let x = does n c s (passed (checks st n c) e) in (granted (x .0), x .1, x .2, (e, x .3), x .4)
 
 pub answered-law : {B : Type 0} (meaning : B → Meaning) → Answered-law meaning
-answered-law meaning able w r s i a tie n c sound = let f = good-in w (reached w r) s i in answers meaning able (s .state) (s .table) (f .0) (f .1) a tie n c sound
+answered-law meaning able w r s i a tie n c sound = let f = holds-in w (reached-holds w r) s i in answers meaning able (s .state) (s .table) (f .0) (f .1) a tie n c sound

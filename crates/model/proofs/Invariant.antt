@@ -53,8 +53,8 @@ abbrev pub Other : State → ℕ → Block → Type 0
 Other st s C = (t : ℕ) × (m : Line) × (t ≡ s → ⊥) × (look-up t st ≡ Some m) × (block-of (m .backing) ≡ Some C)
 
 -- the bytes of every block that another handle is on stay
-abbrev pub Calm : State → ℕ → List ℕ → Type 0
-Calm st s ys = (C : Block) → Other st s C → part (C .place) (C .size) ys ≡ part (C .place) (C .size) (st .bytes)
+abbrev pub Undisturbed : State → ℕ → List ℕ → Type 0
+Undisturbed st s ys = (C : Block) → Other st s C → part (C .place) (C .size) ys ≡ part (C .place) (C .size) (st .bytes)
 
 -- the line and the row of the serial s change, and no other
 pub record Change (st st′ : State) (tb tb′ : Table) (s : ℕ) : Type 0 where
@@ -64,7 +64,7 @@ pub record Change (st st′ : State) (tb tb′ : Table) (s : ℕ) : Type 0 where
   pub order : Rising serial-of 0 (st′ .next) (st′ .lines)
   pub same-look-up : (t : ℕ) → (t ≡ s → ⊥) → look-up t st′ ≡ look-up t st
   pub same-row : (t : ℕ) → (t ≡ s → ⊥) → row t tb′ ≡ row t tb
-  pub calm : Calm st s (st′ .bytes)
+  pub undisturbed : Undisturbed st s (st′ .bytes)
   pub spelled : (l : Line) → look-up s st′ ≡ Some l → Has-row (st .meaning .base) (st′ .bytes) l s tb′
   pub live : (r : Row) → row s tb′ ≡ Some r → (l : Line) × (look-up s st′ ≡ Some l)
   pub held : (l : Line) (B : Block) → look-up s st′ ≡ Some l → block-of (l .backing) ≡ Some B → Among B (st′ .meaning .live)
@@ -95,7 +95,7 @@ module _ (st st′ : State) (tb tb′ : Table) (s : ℕ) (inv : Inv st tb) (c : 
   still : (t : ℕ) (l : Line) → (t ≡ s → ⊥) → look-up t st ≡ Some l → Sits (st .meaning .base) l (block-of (l .backing)) → shown (st .meaning .base) l (st′ .bytes) ≡ shown (st .meaning .base) l (st .bytes)
   unfolding shown
   still t l n e k = still-shown (st .meaning .base) l (st .bytes) (st′ .bytes) (block-of (l .backing)) k (λ C b.
-      (omega (arith, inv .law .within C (inv .held t l C e b), inv .long), omega (arith, c .law .within C (c .kept t l C n e b), c .long), c .calm C (t, l, n, e, b)))
+      (omega (arith, inv .law .within C (inv .held t l C e b), inv .long), omega (arith, c .law .within C (c .kept t l C n e b), c .long), c .undisturbed C (t, l, n, e, b)))
 
   spelled′ : (t : ℕ) (l : Line) → look-up t st′ ≡ Some l → (t ≡ s) ⊎ (t ≡ s → ⊥) → Has-row (st′ .meaning .base) (st′ .bytes) l t tb′
   spelled′ t l e (inl q) =

@@ -1,4 +1,4 @@
--- Each granted call keeps the invariant.
+-- The calls that change one line, each shown to keep the invariant.
 use mathlib.Core.Bool.{Bool, true, false}
 use mathlib.Core.List.{List, [], _∷_, _++_}
 use mathlib.Core.Logic.{_⊎_, inl, inr, ⊎-elim}
@@ -33,7 +33,7 @@ use Rattle.model.proofs.Getting.{returned}
 use Rattle.model.proofs.Invariant.{Fits, Has-row, Inv, Other}
 use Rattle.model.proofs.Keyed.{any-other-no, any-other-yes, rising-above}
 use Rattle.model.proofs.Moves.{Rows, create, finish-line, only-add, only-end, only-none, only-put, revise, rows-add, rows-end, rows-none, rows-update}
-use Rattle.model.proofs.Shapes.{calm-outside, never, pin}
+use Rattle.model.proofs.Shapes.{never, pin, undisturbed-outside}
 
 if-any-some : (vs : List (List ℕ)) (b : Option Block) → 1 ≤ length vs → if-any vs b ≡ b
 if-any-some [] b h = absurd (omega arith)
@@ -142,7 +142,7 @@ module _ (st : State) (tb : Table) (inv : Inv st tb) where
           let o : Outside (B .place) (B .size) (st .bytes) y = outside-overwrite (B .place) (B .size) (l .start - st .meaning .base + i * l .kind .width) v (st .bytes) (omega (arith, z .0)) (omega (arith, z .0, z .1)) (inside s l e B b) in
           revise st tb inv s l l (spelling (t .0) (set (t .0 .list) i v)) (st .lines) y (update key-of s (λ r. spelling r (set (r .list) i v)) tb) e (only-none (st .next) (st .lines) s l (inv .order) e)
           (rows-update tb s (λ r. spelling r (set (r .list) i v)) (t .0) (λ x. refl) (t .1)) refl (o .long)
-          (calm-outside st tb s (st .meaning) B y inv (inv .law) refl here o (λ C x. (inv .held (x .0) (x .1) C (x .3) (x .4), λ q. mathlib.Core.Bool.true≢false (sym mut ∙ inv .alone s (x .0) l (x .1) C (x .2) e (x .3) (b ∙ ap {B = Option Block} Some (sym q)) (x .4)))))
+          (undisturbed-outside st tb s (st .meaning) B y inv (inv .law) refl here o (λ C x. (inv .held (x .0) (x .1) C (x .3) (x .4), λ q. mathlib.Core.Bool.true≢false (sym mut ∙ inv .alone s (x .0) l (x .1) C (x .2) e (x .3) (b ∙ ap {B = Option Block} Some (sym q)) (x .4)))))
           (fits-set (st .meaning .base) (st .bytes) l (t .0) i v B (t .2) b (inside s l e B b) h k) (own-share s l l e refl)
 
   pub unused : look-up (st .next) st ≡ None

@@ -1,4 +1,4 @@
--- Between calls a store is sure: from the law over runs, with a table spelled from the region's own bytes.
+-- Every call keeps the invariant of a state alone: its table is spelled from the region's own bytes.
 use mathlib.Core.List.{[], map, List}
 use mathlib.Core.Path.{_≡_, refl, sym, ap, subst, _∙_}
 use Prim.Native.Nat.{ℕ, _-_, _*_}
@@ -27,9 +27,9 @@ use Rattle.model.proofs.Checks.{passed}
 use Rattle.model.proofs.Fitting.{shown-is, shown-none, sits-off, sits-on}
 use Rattle.model.proofs.Invariant.{Fits, Inv}
 use Rattle.model.proofs.Keyed.{find-map, find-nil, mapped}
-use Rattle.model.proofs.Law.{answered, good-in, lines-answered, reached}
-use Rattle.model.proofs.LineLaw.{Lines-keep}
+use Rattle.model.proofs.Lines.{Lines-keep}
 use Rattle.model.proofs.Patterns.{even-chunks, joined-chunks, length-chunks}
+use Rattle.model.proofs.Runs.{answered, holds-in, lines-answered, reached-holds}
 use Rattle.model.proofs.Shapes.{never}
 use Rattle.model.proofs.Strip.{strip}
 
@@ -137,7 +137,7 @@ sure-new p e = record {
 }
 
 pub sure-reached : (w : World) → Reached w → (s : Store) → In s w → Sure-of (s .state)
-sure-reached w r s i = let f = good-in w (reached w r) s i in inv-sure (s .state) (s .table) (f .0) (f .1)
+sure-reached w r s i = let f = holds-in w (reached-holds w r) s i in inv-sure (s .state) (s .table) (f .0) (f .1)
 
 pub invariant-law : Invariant-law
 invariant-law = (sure-new, sure-reached, keeps-sure, strip)

@@ -1,4 +1,4 @@
--- What seek finds after each change of a keyed list.
+-- Keyed lists: what is found after each change, and what stays so of all.
 use mathlib.Core.Bool.{Bool, true, false, cond}
 use mathlib.Core.List.{List, [], _∷_, _++_, map}
 use mathlib.Core.Path.{_≡_, refl, sym, ap, subst, _∙_}

@@ -1,4 +1,4 @@
--- The shapes: revise a line, create one, rehouse one, end one.
+-- The shapes of change: a line is revised, created, relocated or ended.
 use mathlib.Core.Bool.{Bool, true, false}
 use mathlib.Core.List.{List, [], _∷_, _++_}
 use mathlib.Core.Logic.{_⊎_, inl, inr, ⊎-elim, _↔_}
@@ -15,9 +15,9 @@ use Rattle.model.specs.declared.line.Line.{Line}
 use Rattle.model.specs.Book.{State, block-of, look-up, serial-of}
 use Rattle.model.specs.Keyed.{Rising, find, update, without}
 use Rattle.model.specs.Pedigree.{Row, Table, key-of, row}
-use Rattle.model.proofs.Invariant.{Calm, Fits, Has-row, Inv, Other}
+use Rattle.model.proofs.Invariant.{Fits, Has-row, Inv, Other, Undisturbed}
 use Rattle.model.proofs.Keyed.{find-cons, find-cons-other, find-key, find-snoc, find-snoc-other, find-update, find-update-other, find-without, find-without-other, rising-above, rising-snoc, rising-update, rising-without}
-use Rattle.model.proofs.Shapes.{block-at, calm-outside, never, pin, swapped}
+use Rattle.model.proofs.Shapes.{block-at, never, pin, swapped, undisturbed-outside}
 
 -- the book changes only at the serial s
 pub record Only (n : ℕ) (xs ys : List Line) (s : ℕ) (new : Option Line) : Type 0 where
@@ -82,10 +82,10 @@ module _ (st : State) (tb : Table) (inv : Inv st tb) where
   -- the line at s is revised, over the same block
   pub revise : (s : ℕ) (l l′ : Line) (r′ : Row) (ls : List Line) (ys : List ℕ) (tb′ : Table) → look-up s st ≡ Some l
       → Only (st .next) (st .lines) ls s (Some l′) → Rows tb tb′ s (Some r′)
-      → block-of (l′ .backing) ≡ block-of (l .backing) → length ys ≡ length (st .bytes) → Calm st s ys → Fits (st .meaning .base) ys l′ r′
+      → block-of (l′ .backing) ≡ block-of (l .backing) → length ys ≡ length (st .bytes) → Undisturbed st s ys → Fits (st .meaning .base) ys l′ r′
       → ((C : Block) → Other st s C → block-of (l .backing) ≡ Some C → l′ .mutable ≡ false)
       → Inv (to st (st .next) ls (st .meaning) ys) tb′
-  revise s l l′ r′ ls ys tb′ e only rows b long calm fits share = swapped st (to st (st .next) ls (st .meaning) ys) tb tb′ s (Some l′) None inv (record {
+  revise s l l′ r′ ls ys tb′ e only rows b long undisturbed fits share = swapped st (to st (st .next) ls (st .meaning) ys) tb tb′ s (Some l′) None inv (record {
     based = refl;
     law = inv .law;
     long = long ∙ inv .long;
@@ -93,7 +93,7 @@ module _ (st : State) (tb : Table) (inv : Inv st tb) where
     same-look-up = only .same;
     same-row = rows .same;
     at = only .at;
-    calm = calm;
+    undisturbed = undisturbed;
     spelled = λ k q. pin refl (λ k. Has-row (st .meaning .base) ys k s tb′) (r′, rows .at, fits) k q;
     live = λ k q. (l′, refl);
     blocks = λ C. (λ a. inr (a, λ q. never refl q), ⊎-elim (λ q. inv .held s l C e (sym b ∙ q)) (λ p. p .0));
@@ -108,11 +108,11 @@ module _ (st : State) (tb : Table) (inv : Inv st tb) where
   -- a new line, on no block, on a new one, or on one that shared handles are on
   pub create : (n : ℕ) (l : Line) (r : Row) (ls : List Line) (a : Meaning) (ys : List ℕ) (tb′ : Table) (s : ℕ) → look-up s st ≡ None
       → Only n (st .lines) ls s (Some l) → Rows tb tb′ s (Some r)
-      → Lawful a → a .base ≡ st .meaning .base → length ys ≡ a .extent → Calm st s ys → Fits (st .meaning .base) ys l r
+      → Lawful a → a .base ≡ st .meaning .base → length ys ≡ a .extent → Undisturbed st s ys → Fits (st .meaning .base) ys l r
       → ((C : Block) → Among C (a .live) ↔ ((block-of (l .backing) ≡ Some C) ⊎ Among C (st .meaning .live)))
       → ((t : ℕ) (m : Line) (C : Block) → look-up t st ≡ Some m → block-of (m .backing) ≡ Some C → block-of (l .backing) ≡ Some C → (l .mutable ≡ false) × (m .mutable ≡ false))
       → Inv (to st n ls a ys) tb′
-  create n l r ls a ys tb′ s e only rows law based long calm fits blocks share = swapped st (to st n ls a ys) tb tb′ s (Some l) None inv (record {
+  create n l r ls a ys tb′ s e only rows law based long undisturbed fits blocks share = swapped st (to st n ls a ys) tb tb′ s (Some l) None inv (record {
     based = based;
     law = law;
     long = long;
@@ -120,7 +120,7 @@ module _ (st : State) (tb : Table) (inv : Inv st tb) where
     same-look-up = only .same;
     same-row = rows .same;
     at = only .at;
-    calm = calm;
+    undisturbed = undisturbed;
     spelled = λ k q. pin refl (λ k. Has-row (st .meaning .base) ys k s tb′) (r, rows .at, fits) k q;
     live = λ k q. (l, refl);
     blocks = λ C. (λ k. ⊎-elim inl (λ p. inr (p, λ q. never refl q)) (blocks C .0 k), λ k. blocks C .1 (⊎-elim inl (λ p. inr (p .0)) k));
@@ -147,7 +147,7 @@ module _ (st : State) (tb : Table) (inv : Inv st tb) where
     same-look-up = only .same;
     same-row = rows .same;
     at = only .at;
-    calm = calm-outside st tb s a B ys inv law (fixed .extent) (blocks B .1 (inl refl)) out (λ C o. (blocks C .1 (inr (inv .held (o .0) (o .1) C (o .3) (o .4), spare C o)), strange C o));
+    undisturbed = undisturbed-outside st tb s a B ys inv law (fixed .extent) (blocks B .1 (inl refl)) out (λ C o. (blocks C .1 (inr (inv .held (o .0) (o .1) C (o .3) (o .4), spare C o)), strange C o));
     spelled = λ k q. pin refl (λ k. Has-row (st .meaning .base) ys k s tb′) (r′, rows .at, fits) k q;
     live = λ k q. (l′, refl);
     blocks = λ C. (λ k. ⊎-elim (λ q. inl (on-B ∙ ap {B = Option Block} Some (sym q))) inr (blocks C .0 k), λ k. blocks C .1 (⊎-elim (λ q. inl (let z : C ≡ B = cc in z)) inr k));
@@ -181,7 +181,7 @@ module _ (st : State) (tb : Table) (inv : Inv st tb) where
     same-look-up = only .same;
     same-row = rows .same;
     at = only .at;
-    calm = λ C o. refl;
+    undisturbed = λ C o. refl;
     spelled = λ k q. absurd (never refl q);
     live = λ k q. absurd (never (rows .at) q);
     blocks = λ C. (λ k. inr (blocks C .0 k), λ k. blocks C .1 (⊎-elim (λ q. absurd (never refl q)) (λ p. p) k));

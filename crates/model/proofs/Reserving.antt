@@ -32,7 +32,7 @@ use Rattle.model.proofs.Invariant.{Fits, Inv}
 use Rattle.model.proofs.Keeps.{inside, on-block, own-share}
 use Rattle.model.proofs.Moves.{Rows, only-none, only-put, relocate, revise, rows-update}
 use Rattle.model.proofs.Patterns.{length-joined, overwrite-nothing}
-use Rattle.model.proofs.Shapes.{calm-outside, never}
+use Rattle.model.proofs.Shapes.{never, undisturbed-outside}
 
 pub same-fixed : (a b c : Meaning) → Fixed a b → Fixed b c → Fixed a c
 same-fixed a b c p q = record { base = q .base ∙ p .base; extent = q .extent ∙ p .extent; room = q .room ∙ p .room; copies = q .copies ∙ p .copies }
@@ -230,5 +230,5 @@ module _ (st : State) (tb : Table) (inv : Inv st tb) (s : ℕ) (l : Line) (e : l
           let g = length-joined (l .kind .width) vs even in
           let o : Outside (B .place) (B .size) (st .bytes) ys = outside-overwrite (B .place) (B .size) (l .start - st .meaning .base + l .len * l .kind .width) (joined vs) (st .bytes) (omega (arith, z .0)) (omega (arith, z .0, z .2)) (inside st tb inv s l e B b) in
           revise st tb inv s l l′ (spelling r (r .list ++ vs)) (update serial-of (l′ .serial) (λ _. l′) (st .lines)) ys tb′ e (only-put (st .next) (st .lines) s l l′ (inv .order) e q) rows refl (o .long)
-          (calm-outside st tb s (st .meaning) B ys inv (inv .law) refl (inv .held s l B e b) o (λ C x. (inv .held (x .0) (x .1) C (x .3) (x .4), λ p. mathlib.Core.Bool.true≢false (sym mut ∙ inv .alone s (x .0) l (x .1) C (x .2) e (x .3) (b ∙ ap {B = Option Block} Some (sym p)) (x .4)))))
+          (undisturbed-outside st tb s (st .meaning) B ys inv (inv .law) refl (inv .held s l B e b) o (λ C x. (inv .held (x .0) (x .1) C (x .3) (x .4), λ p. mathlib.Core.Bool.true≢false (sym mut ∙ inv .alone s (x .0) l (x .1) C (x .2) e (x .3) (b ∙ ap {B = Option Block} Some (sym p)) (x .4)))))
           (fits-append (st .meaning .base) (st .bytes) l r vs B f b (inside st tb inv s l e B b) room even) (own-share st tb inv s l l′ e refl)

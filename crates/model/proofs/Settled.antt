@@ -28,9 +28,9 @@ use Rattle.model.specs.Pedigree.{Table, feed}
 use Rattle.model.specs.Runs.{Sound}
 use Rattle.model.proofs.Getting.{unchanged}
 use Rattle.model.proofs.Invariant.{Fits, Inv}
-use Rattle.model.proofs.Law.{answered, good-in, reached}
-use Rattle.model.proofs.LineLaw.{Lines-keep}
+use Rattle.model.proofs.Lines.{Lines-keep}
 use Rattle.model.proofs.Reserving.{same-fixed}
+use Rattle.model.proofs.Runs.{answered, holds-in, reached-holds}
 use Rattle.model.proofs.Shapes.{never, pin}
 
 -- a granted call changes none of the allocator's fixed parts
@@ -120,10 +120,10 @@ same-state : {st st′ : State} → st′ ≡ st → Same-book st st′
 same-state e = record { number = ap (λ z. z .number) e; next = ap (λ z. z .next) e; lines = ap (λ z. z .lines) e }
 
 -- what two grants with the same blocks come to
-abbrev Agree : Grant → Grant → State → State → Type 0
-Agree g g′ st st′ = (g′ ≡ g) × Same-book st st′
+abbrev Same-answer : Grant → Grant → State → State → Type 0
+Same-answer g g′ st st′ = (g′ ≡ g) × Same-book st st′
 
-plainly : {g g′ x : Grant} {st st′ y : State} → (g ≡ x) × (st ≡ y) → (g′ ≡ x) × (st′ ≡ y) → Agree g g′ st st′
+plainly : {g g′ x : Grant} {st st′ y : State} → (g ≡ x) × (st ≡ y) → (g′ ≡ x) × (st′ ≡ y) → Same-answer g g′ st st′
 plainly (p, q) (p′, q′) = (p′ ∙ sym p, same-state (q′ ∙ sym q))
 
 list-of-one : (x y : Option Block) → list-of y ≡ list-of x → y ≡ x
@@ -134,7 +134,7 @@ list-of-one (Some b) (Some c) e = let z : c ≡ b = cc in ap {B = Option Block} 
 
 module _ (st : State) where
   made-agree : (k : Kind) (mutable : Bool) (c claim m n : ℕ) (writes : Option Block → List ℕ) (g g′ : Grant) (st₁ st₂ : State) → g′ .blocks ≡ g .blocks
-      → Made st k mutable c claim m n writes g st₁ → Made st k mutable c claim m n writes g′ st₂ → Agree g g′ st₁ st₂
+      → Made st k mutable c claim m n writes g st₁ → Made st k mutable c claim m n writes g′ st₂ → Same-answer g g′ st₁ st₂
   unfolding add-line with-bytes with-meaning
   made-agree k mutable c claim m n writes g g′ st₁ st₂ e d d′ =
       let q : d′ .got ≡ d .got = list-of-one (d .got) (d′ .got) (sym (ap (λ z. z .blocks) (d′ .grant)) ∙ e ∙ ap (λ z. z .blocks) (d .grant)) in
@@ -148,7 +148,7 @@ module _ (st : State) where
       )
 
   copies-agree : (l : Line) (c claim : ℕ) (mutable : Bool) (capacity : Option Block → ℕ) (g g′ : Grant) (st₁ st₂ : State) → g′ .blocks ≡ g .blocks
-      → Copies st l c claim mutable capacity g st₁ → Copies st l c claim mutable capacity g′ st₂ → Agree g g′ st₁ st₂
+      → Copies st l c claim mutable capacity g st₁ → Copies st l c claim mutable capacity g′ st₂ → Same-answer g g′ st₁ st₂
   unfolding put-line with-bytes with-meaning copied-into
   copies-agree l c claim mutable capacity g g′ st₁ st₂ e d d′ =
       let q : d′ .got ≡ d .got = list-of-one (d .got) (d′ .got) (sym (ap (λ z. z .blocks) (d′ .grant)) ∙ e ∙ ap (λ z. z .blocks) (d .grant)) in
@@ -161,7 +161,7 @@ module _ (st : State) where
         },
       )
 
-  stays-agree : (b : Bool) (l : Line) (g g′ : Grant) (st₁ st₂ : State) (X Y : Type 0) → (X → Y → Agree g g′ st₁ st₂) → Stays-or b st l g st₁ X → Stays-or b st l g′ st₂ Y → Agree g g′ st₁ st₂
+  stays-agree : (b : Bool) (l : Line) (g g′ : Grant) (st₁ st₂ : State) (X Y : Type 0) → (X → Y → Same-answer g g′ st₁ st₂) → Stays-or b st l g st₁ X → Stays-or b st l g′ st₂ Y → Same-answer g g′ st₁ st₂
   stays-agree true l g g′ st₁ st₂ X Y f d d′ = plainly d d′
   stays-agree false l g g′ st₁ st₂ X Y f d d′ = f d d′
 
@@ -199,7 +199,7 @@ module _ (st : State) where
     lines = ap (λ z. z .lines) q ∙ b .lines ∙ sym (ap (λ z. z .lines) p);
   }
 
-  pub agree : (c : Call) (g g′ : Grant) (st₁ st₂ : State) → g′ .blocks ≡ g .blocks → Does st c g st₁ → Does st c g′ st₂ → Agree g g′ st₁ st₂
+  pub agree : (c : Call) (g g′ : Grant) (st₁ st₂ : State) → g′ .blocks ≡ g .blocks → Does st c g st₁ → Does st c g′ st₂ → Same-answer g g′ st₁ st₂
   agree (WithCapacity k c a p) g g′ st₁ st₂ e d d′ = made-agree k true c a (max a p) 0 _ g g′ st₁ st₂ e d d′
   agree (Zeroed k mutable n a p) g g′ st₁ st₂ e d d′ = made-agree k mutable n a (max a p) n _ g g′ st₁ st₂ e d d′
   agree (CopyFrom k mutable vs a p) g g′ st₁ st₂ e d d′ = made-agree k mutable (length vs) a (max a p) (length vs) _ g g′ st₁ st₂ e d d′
@@ -272,4 +272,4 @@ settled st tb inv each n c sound (granted g) (granted g′) st₁ st₂ (p, d) (
     (ap granted (a .0), alike st₁ st₂ (feed tb c (granted g)) i j (a .1) (from-both (does-fixed st c g st₁ d) (does-fixed st c g′ st₂ d′)))
 
 pub settled-law : Settled-law
-settled-law w r s i n c sound x y st st′ p q e = let f = good-in w (reached w r) s i in settled (s .state) (s .table) (f .0) (f .1) n c sound x y st st′ p q e
+settled-law w r s i n c sound x y st st′ p q e = let f = holds-in w (reached-holds w r) s i in settled (s .state) (s .table) (f .0) (f .1) n c sound x y st st′ p q e

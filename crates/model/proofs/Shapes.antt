@@ -17,7 +17,7 @@ use Rattle.model.specs.declared.line.Line.{Line}
 use Rattle.model.specs.Book.{State, block-of, look-up, serial-of}
 use Rattle.model.specs.Keyed.{Rising}
 use Rattle.model.specs.Pedigree.{Row, Table, row}
-use Rattle.model.proofs.Invariant.{Calm, Change, Has-row, Inv, Other, Under, changed}
+use Rattle.model.proofs.Invariant.{Change, Has-row, Inv, Other, Under, Undisturbed, changed}
 
 pub pin : {X : Type 0} {o : Option X} {x : X} → o ≡ Some x → (P : X → Type 0) → P x → (y : X) → o ≡ Some y → P y
 pin {X} {o} {x} e P p y f = let q : x ≡ y = cc in subst P q p
@@ -38,7 +38,7 @@ pub record Swap (st st′ : State) (tb tb′ : Table) (s : ℕ) (new : Option Li
   pub same-look-up : (t : ℕ) → (t ≡ s → ⊥) → look-up t st′ ≡ look-up t st
   pub same-row : (t : ℕ) → (t ≡ s → ⊥) → row t tb′ ≡ row t tb
   pub at : look-up s st′ ≡ new
-  pub calm : Calm st s (st′ .bytes)
+  pub undisturbed : Undisturbed st s (st′ .bytes)
   pub spelled : (l : Line) → new ≡ Some l → Has-row (st .meaning .base) (st′ .bytes) l s tb′
   pub live : (r : Row) → row s tb′ ≡ Some r → (l : Line) × (new ≡ Some l)
   pub blocks : (C : Block) → Among C (st′ .meaning .live) ↔ ((block-at new ≡ Some C) ⊎ (Among C (st .meaning .live) × (gone ≡ Some C → ⊥)))
@@ -71,7 +71,7 @@ module _ (st st′ : State) (tb tb′ : Table) (s : ℕ) (new : Option Line) (go
     order = w .order;
     same-look-up = w .same-look-up;
     same-row = w .same-row;
-    calm = w .calm;
+    undisturbed = w .undisturbed;
     spelled = λ l e. w .spelled l (sym (w .at) ∙ e);
     live = λ r e. let h = w .live r e in (h .0, w .at ∙ h .1);
     held = λ l B e b. w .blocks B .1 (inl (ap block-at (sym (w .at) ∙ e) ∙ b));
@@ -87,7 +87,7 @@ module _ (st st′ : State) (tb tb′ : Table) (s : ℕ) (new : Option Line) (go
 module _ (st : State) (tb : Table) (s : ℕ) (a : Meaning) (B : Block) (ys : List ℕ) (inv : Inv st tb) (law : Lawful a) (size : a .extent ≡ st .meaning .extent) (here : Among B (a .live))
     (out : Outside (B .place) (B .size) (st .bytes) ys)
     (others : (C : Block) → Other st s C → Among C (a .live) × (C ≡ B → ⊥)) where
-  pub calm-outside : Calm st s ys
-  calm-outside C o =
+  pub undisturbed-outside : Undisturbed st s ys
+  undisturbed-outside C o =
       let k = others C o in
       part-outside (B .place) (B .size) (C .place) (C .size) (st .bytes) ys out (law .apart C B (k .0) here (k .1)) (omega (arith, law .within C (k .0), inv .long))

@@ -25,7 +25,7 @@ use Rattle.model.specs.Invariant.{Plain, Sure, Sure-of}
 use Rattle.model.specs.Kinds.{Sound-kind}
 use Rattle.model.specs.Patterns.{joined}
 use Rattle.model.specs.Pedigree.{Row, row}
-use Rattle.model.specs.Reads.{bytes-of, same, says}
+use Rattle.model.specs.Reads.{slice-bytes, same, says}
 use Rattle.model.specs.Runs.{Sound, Store, World, In, Reached}
 
 -- a line and a row of one handle: as many elements of the same kind, over the same block
@@ -65,7 +65,7 @@ Lines-law =
 pub record Shows (s : Store) (n : ℕ) (h : Handle) (r : Row) (xs : List ℕ) : Type 0 where
   pub granted : refusal (checks (s .state) n (read h)) ≡ None
   pub row : row (h .serial) (s .table) ≡ Some r
-  pub bytes : xs ≡ bytes-of (s .state) h
+  pub bytes : xs ≡ slice-bytes (s .state) h
 
 -- parts of one kind, shown at any two points of runs, are their lists' patterns; they are equal exactly when the lists are, and `same` says so
 abbrev pub Parts-law : Type 0

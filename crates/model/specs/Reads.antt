@@ -42,11 +42,11 @@ abbrev pub shown-place : ℕ → Line → ℕ
 shown-place base l = place-on (block-of (l .backing)) base l
 
 -- `as_slice`: the place of the part and its bytes
-abbrev pub place-of : State → Handle → ℕ
-place-of st h = shown-place (st .meaning .base) (line st h)
+abbrev pub slice-place : State → Handle → ℕ
+slice-place st h = shown-place (st .meaning .base) (line st h)
 
-abbrev pub bytes-of : State → Handle → List ℕ
-bytes-of st h = shown (st .meaning .base) (line st h) (st .bytes)
+abbrev pub slice-bytes : State → Handle → List ℕ
+slice-bytes st h = shown (st .meaning .base) (line st h) (st .bytes)
 
 -- `same`: refused where one of the parts is no whole number of elements, else whether the bytes are equal
 pub data Verdict : Type 0 where

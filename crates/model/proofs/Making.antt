@@ -28,11 +28,11 @@ use Rattle.model.specs.Patterns.{Even, joined}
 use Rattle.model.specs.Pedigree.{Row, Table, begins, copied-to, key-of, last-or, upon}
 use Rattle.model.proofs.Fitting.{div-mul, joined-none, mul-div}
 use Rattle.model.proofs.Getting.{Obtained, Returned, obtained, returned}
-use Rattle.model.proofs.Invariant.{Calm, Fits, Has-row, Inv, Other}
+use Rattle.model.proofs.Invariant.{Fits, Has-row, Inv, Other, Undisturbed}
 use Rattle.model.proofs.Keeps.{leaves-it, spares-it, unused}
 use Rattle.model.proofs.Moves.{Only, Rows, create, only-add, only-put, rows-add, rows-update, to}
 use Rattle.model.proofs.Patterns.{joined-zeros, length-joined}
-use Rattle.model.proofs.Shapes.{block-at, calm-outside, never, pin, swapped}
+use Rattle.model.proofs.Shapes.{block-at, never, pin, swapped, undisturbed-outside}
 
 pub block-got : (got : Option Block) → block-of (backing-in got) ≡ got
 unfolding block-of
@@ -49,11 +49,11 @@ Placed base m w vs xs ys None = (vs ≡ []) × (ys ≡ xs)
 Placed base m w vs xs ys (Some B) = Outside (B .place) (B .size) xs ys × (part (round-up (base + B .place) m - base) (length vs * w) ys ≡ joined vs)
 
 module _ (base m w c : ℕ) (one : 1 ≤ m) (xs : List ℕ) where
-  spot-low : (B : Block) → B .place ≤ round-up (base + B .place) m - base
-  spot-low B = omega (arith, round-up-low (base + B .place) m)
+  place-low : (B : Block) → B .place ≤ round-up (base + B .place) m - base
+  place-low B = omega (arith, round-up-low (base + B .place) m)
 
-  spot-high : (B : Block) (n : ℕ) → B .size ≡ c * w + m → n ≤ c → round-up (base + B .place) m - base + n * w ≤ B .place + B .size
-  spot-high B n s h = omega (arith, round-up-high (base + B .place) m one, round-up-low (base + B .place) m, mul-le-mul-right w h)
+  place-high : (B : Block) (n : ℕ) → B .size ≡ c * w + m → n ≤ c → round-up (base + B .place) m - base + n * w ≤ B .place + B .size
+  place-high B n s h = omega (arith, round-up-high (base + B .place) m one, round-up-low (base + B .place) m, mul-le-mul-right w h)
 
   pub placed-nothing : (got : Option Block) → Placed base m w [] xs xs got
   placed-nothing None = (refl, refl)
@@ -64,8 +64,8 @@ module _ (base m w c : ℕ) (one : 1 ≤ m) (xs : List ℕ) where
   placed-written vs None e h sized inside bare = (nil-from-length vs (omega (arith, bare refl)), refl)
   placed-written vs (Some B) e h sized inside bare =
       let f = length-joined w vs e in
-      let k = spot-high B (length vs) (sized B refl) h in (
-        outside-overwrite (B .place) (B .size) (round-up (base + B .place) m - base) (joined vs) xs (spot-low B) (omega arith) (inside B refl),
+      let k = place-high B (length vs) (sized B refl) h in (
+        outside-overwrite (B .place) (B .size) (round-up (base + B .place) m - base) (joined vs) xs (place-low B) (omega arith) (inside B refl),
         part-overwrite (round-up (base + B .place) m - base) (length vs * w) (joined vs) xs f (omega (arith, inside B refl)),
       )
 
@@ -75,15 +75,15 @@ module _ (base m w c : ℕ) (one : 1 ≤ m) (xs : List ℕ) where
   placed-zeros (Some B) sized inside bare =
       let z : length (replicate {A = ℕ} (B .size) 0) ≡ B .size = length-replicate (B .size) 0 in
       let spot = round-up (base + B .place) m - base in
-      let k = spot-high B c (sized B refl) (omega arith) in
+      let k = place-high B c (sized B refl) (omega arith) in
       let n : length (replicate {A = List ℕ} c (replicate w 0)) ≡ c = length-replicate c (replicate w 0) in
       let ys = overwrite (B .place) (replicate (B .size) 0) xs in
       let long = length-overwrite (B .place) (replicate (B .size) 0) xs (omega (arith, inside B refl)) in (
         outside-overwrite (B .place) (B .size) (B .place) (replicate (B .size) 0) xs (omega arith) (omega arith) (inside B refl),
-        ap (λ i. part spot (i * w) ys) n ∙ ap (λ i. part i (c * w) ys) (let q : spot ≡ B .place + (spot - B .place) = omega (arith, spot-low B) in q)
-            ∙ sym (part-part (B .place) (B .size) (spot - B .place) (c * w) ys (omega (arith, spot-low B)) (omega (arith, inside B refl)))
+        ap (λ i. part spot (i * w) ys) n ∙ ap (λ i. part i (c * w) ys) (let q : spot ≡ B .place + (spot - B .place) = omega (arith, place-low B) in q)
+            ∙ sym (part-part (B .place) (B .size) (spot - B .place) (c * w) ys (omega (arith, place-low B)) (omega (arith, inside B refl)))
             ∙ ap (part (spot - B .place) (c * w)) (part-overwrite (B .place) (B .size) (replicate (B .size) 0) xs z (inside B refl))
-            ∙ part-zeros (spot - B .place) (c * w) (B .size) (omega (arith, spot-low B)) ∙ sym (joined-zeros c w),
+            ∙ part-zeros (spot - B .place) (c * w) (B .size) (omega (arith, place-low B)) ∙ sym (joined-zeros c w),
       )
 
 -- a line over what was got, with its contents
@@ -144,11 +144,11 @@ as-none false n h = refl
 
 module _ (st : State) (tb : Table) (inv : Inv st tb) where
   -- other lines show what they did, whatever is written in what was got
-  calm-got : (s c size m w : ℕ) (vs : List (List ℕ)) (a al : Meaning) (got : Option Block) (ys : List ℕ) → Obtained (st .meaning) a c size got → Lawful al → al .extent ≡ st .meaning .extent
-      → ((C : Block) → Other st s C → Among C (al .live)) → ((C : Block) → got ≡ Some C → Among C (al .live)) → Placed (st .meaning .base) m w vs (st .bytes) ys got → Calm st s ys
-  calm-got s c size m w vs a al None ys o law sz kept here p = λ C x. ap (part (C .place) (C .size)) (p .1)
-  calm-got s c size m w vs a al (Some B) ys o law sz kept here p =
-      calm-outside st tb s al B ys inv law sz (here B refl) (p .0) (λ C x. (kept C x, λ q. o .new B refl (subst (λ D. Among D (st .meaning .live)) q (inv .held (x .0) (x .1) C (x .3) (x .4)))))
+  undisturbed-got : (s c size m w : ℕ) (vs : List (List ℕ)) (a al : Meaning) (got : Option Block) (ys : List ℕ) → Obtained (st .meaning) a c size got → Lawful al → al .extent ≡ st .meaning .extent
+      → ((C : Block) → Other st s C → Among C (al .live)) → ((C : Block) → got ≡ Some C → Among C (al .live)) → Placed (st .meaning .base) m w vs (st .bytes) ys got → Undisturbed st s ys
+  undisturbed-got s c size m w vs a al None ys o law sz kept here p = λ C x. ap (part (C .place) (C .size)) (p .1)
+  undisturbed-got s c size m w vs a al (Some B) ys o law sz kept here p =
+      undisturbed-outside st tb s al B ys inv law sz (here B refl) (p .0) (λ C x. (kept C x, λ q. o .new B refl (subst (λ D. Among D (st .meaning .live)) q (inv .held (x .0) (x .1) C (x .3) (x .4)))))
 
   long-got : (m w : ℕ) (vs : List (List ℕ)) (got : Option Block) (ys : List ℕ) → Placed (st .meaning .base) m w vs (st .bytes) ys got → length ys ≡ length (st .bytes)
   long-got m w vs None ys p = ap length (p .1)
@@ -172,21 +172,21 @@ module _ (st : State) (tb : Table) (inv : Inv st tb) where
       subst (λ z. Inv z (begins g k vs ∷ tb)) (sym (d .is)) (subst (λ z. Inv (add-line (with-bytes (with-meaning st (d .meaning)) ys) l) (begins z k vs ∷ tb)) (sym (d .grant))
       (create st tb inv (st .next + 1) l r (st .lines ++ (l ∷ [])) (d .meaning) ys (r ∷ tb) (st .next) (unused st tb inv) (only-add (st .next) (st .lines) l (inv .order) refl) (rows-add tb r (st .next) refl)
       (o .lawful) (o .fixed .base) (long-got m (k .width) vs got ys p ∙ inv .long ∙ sym (o .fixed .extent))
-      (calm-got (st .next) c (c * k .width + m) m (k .width) vs (d .meaning) (d .meaning) got ys o (o .lawful) (o .fixed .extent) (λ C x. o .blocks C .1 (inr (inv .held (x .0) (x .1) C (x .3) (x .4)))) (λ C q. o .blocks C .1 (inl q)) p)
+      (undisturbed-got (st .next) c (c * k .width + m) m (k .width) vs (d .meaning) (d .meaning) got ys o (o .lawful) (o .fixed .extent) (λ C x. o .blocks C .1 (inr (inv .held (x .0) (x .1) C (x .3) (x .4)))) (λ C q. o .blocks C .1 (inl q)) p)
       (fits-placed (st .meaning .base) m c one (st .bytes) ys l r got vs refl refl refl refl refl (last-got got) even wide claims le (o .sized) (λ B e. as-fits mutable (capacity-in (st .meaning .base) m (k .width) got) (k .width) _ (room-fits (st .meaning .base) m (k .width) got B e)) (λ e. as-none mutable _ (room-none (st .meaning .base) m (k .width) got e))
       (λ q. subst (λ b. length vs ≤ cond b (capacity-in (st .meaning .base) m (k .width) got) 0) (sym q) (room-in (st .meaning .base) m (k .width) c (length vs) got one wide le (o .sized) (o .bare))) p)
       (λ C. (λ x. ⊎-elim (λ q. inl (block-got got ∙ q)) inr (o .blocks C .0 x), λ x. o .blocks C .1 (⊎-elim (λ q. inl (sym (block-got got) ∙ q)) inr x)))
       (λ t n C x y z. absurd (o .new C (sym (block-got got) ∙ z) (inv .held t n C x y)))))
 
   -- a line copied into what it got
-  pub settle : (s : ℕ) (l : Line) (c claim : ℕ) (mutable : Bool) (capacity : Option Block → ℕ) (g : Grant) (st′ : State) → look-up s st ≡ Some l → l .serial ≡ s → 1 ≤ claim → l .len ≤ c
+  pub copy-in : (s : ℕ) (l : Line) (c claim : ℕ) (mutable : Bool) (capacity : Option Block → ℕ) (g : Grant) (st′ : State) → look-up s st ≡ Some l → l .serial ≡ s → 1 ≤ claim → l .len ≤ c
       → ((got : Option Block) (B : Block) → ((D : Block) → got ≡ Some D → D .size ≡ c * l .kind .width + max claim 256) → got ≡ Some B
       → capacity got * l .kind .width ≤ B .size - (round-up (st .meaning .base + B .place) (max claim 256) - (st .meaning .base + B .place)))
       → ((got : Option Block) → got ≡ None → c ≡ 0 → capacity got ≡ 0)
       → ((got : Option Block) → ((B : Block) → got ≡ Some B → B .size ≡ c * l .kind .width + max claim 256) → (got ≡ None → c ≡ 0) → mutable ≡ true → l .len ≤ capacity got)
       → Copies st l c claim mutable capacity g st′ → Inv st′ (update key-of s (copied-to g) tb)
   unfolding put-line with-meaning with-bytes copied-into upon
-  settle s l c claim mutable capacity g st′ e q claims le cap bare within d =
+  copy-in s l c claim mutable capacity g st′ e q claims le cap bare within d =
       subst (λ z. Inv z (update key-of s (copied-to g) tb)) (sym (d .is))
       (swapped st (to st (st .next) (update serial-of (l .serial) (λ _. l′) (st .lines)) (d .meaning) ys) tb (update key-of s (copied-to g) tb) s (Some l′) gone inv (record {
         based = back .fixed .base ∙ o .fixed .base;
@@ -196,7 +196,7 @@ module _ (st : State) (tb : Table) (inv : Inv st tb) where
         same-look-up = only .same;
         same-row = rows .same;
         at = only .at;
-        calm = calm-got s c (c * w + m) m w (r .list) (d .between) (d .meaning) got ys o (back .lawful) (back .fixed .extent ∙ o .fixed .extent)
+        undisturbed = undisturbed-got s c (c * w + m) m w (r .list) (d .between) (d .meaning) got ys o (back .lawful) (back .fixed .extent ∙ o .fixed .extent)
             (λ C x. back .blocks C .1 (o .blocks C .1 (inr (inv .held (x .0) (x .1) C (x .3) (x .4))), spares-it st tb inv s l (shared-by st l) q refl C x)) (λ C x. back .blocks C .1 (o .blocks C .1 (inl x), keeps-new C x)) p;
         spelled = λ k x. pin refl (λ k. Has-row (st .meaning .base) ys k s (update key-of s (copied-to g) tb)) (r′, rows .at, fits) k x;
         live = λ k x. (l′, refl);

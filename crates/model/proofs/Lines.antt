@@ -201,8 +201,8 @@ module _ (st : State) (e : Lines-keep st) (st′ : State) where
       subst Lines-keep (sym q) (add-keeps (put-line st l₀) (with-serial (line st h) (st .next)) (moved-keeps (line st h) (with-serial (line st h) (st .next)) k (e .1 .begun) refl refl refl refl refl) (put-full st l₀ (ps .1 .1 .1 .0))
       (put-keeps st l₀ (record { serial = subst (λ z. 1 ≤ z) (held st h (ps .1 .1 .0) .serial) (k .serial); kind = k .kind; alignment = k .alignment; start = alignment-max (line st h .claim) 256 (k .alignment) alignment-256; align = k .align; shared = λ q. refl }) e))
   kept-on extent (AlignedMut h a) g s ps d =
-      let six = ltb-false a (line st h .kind .align) (ps .1 .1 .1 .1 .0) in
-      stays-keep (is-aligned (line st h) a) (with-claim (line st h) a) g _ (λ f. claim-keeps (line st h) a (of h) s six (aligned-then (line st h) a f)) (copies-keep (line st h) (line st h .capacity) a true (λ got. line st h .capacity) g (of h) s six (λ got q. absurd (true≢false q))) d
+      let covered = ltb-false a (line st h .kind .align) (ps .1 .1 .1 .1 .0) in
+      stays-keep (is-aligned (line st h) a) (with-claim (line st h) a) g _ (λ f. claim-keeps (line st h) a (of h) s covered (aligned-then (line st h) a f)) (copies-keep (line st h) (line st h .capacity) a true (λ got. line st h .capacity) g (of h) s covered (λ got q. absurd (true≢false q))) d
   kept-on extent (Freeze h) g s ps (p, q) =
       let k = of h in
       subst Lines-keep (sym q) (put-keeps st (frozen (line st h)) (record { serial = k .serial; kind = k .kind; alignment = k .alignment; start = k .start; align = k .align; shared = λ q. refl }) e)
@@ -220,17 +220,17 @@ module _ (st : State) (e : Lines-keep st) (st′ : State) where
       let l = line st h in
       let own = ps .1 .1 .1 .1 in
       subst Lines-keep (sym q) (add-keeps st _ (slice-keeps (ltb (begin b) (finish f (l .len))) l (begin b) (finish f (l .len) - begin b) (claimed a l) (of h) (claim-alignment h a s) (ltb-false (claimed a l) (l .kind .align) (own .1 .1 .1 .1 .1 .0))
-      (λ t. fourteen (ltb (begin b) (finish f (l .len))) ((l .start + begin b * l .kind .width) % claimed a l) t (own .1 .1 .1 .1 .1 .1 .0))) (ps .1 .1 .1 .0) e)
+      (λ t. start-fits (ltb (begin b) (finish f (l .len))) ((l .start + begin b * l .kind .width) % claimed a l) t (own .1 .1 .1 .1 .1 .1 .0))) (ps .1 .1 .1 .0) e)
     where
-      fourteen : (c : Bool) (x : ℕ) → c ≡ true → (c && not (eqb x 0)) ≡ false → x ≡ 0
-      fourteen c x t f = eqb-true x 0 (not-false (eqb x 0) (subst (λ z. (z && not (eqb x 0)) ≡ false) t f))
+      start-fits : (c : Bool) (x : ℕ) → c ≡ true → (c && not (eqb x 0)) ≡ false → x ≡ 0
+      start-fits c x t f = eqb-true x 0 (not-false (eqb x 0) (subst (λ z. (z && not (eqb x 0)) ≡ false) t f))
   kept-on extent (TryIntoMut h) g s ps (p, q) = subst Lines-keep (sym q) (put-keeps st _ (unfrozen-keeps (line st h) (line st h .backing) (of h)) e)
   kept-on extent (IntoMut h) g s ps d =
       let k = of h in
       stays-keep (not (shared-by st (line st h))) _ g _ (λ f. unfrozen-keeps (line st h) (line st h .backing) k) (copies-keep (line st h) (line st h .len) (line st h .claim) true _ g k (k .alignment) (k .align) (λ got q. absurd (true≢false q))) d
   kept-on extent (Aligned h a) g s ps d =
-      let six = ltb-false a (line st h .kind .align) (ps .1 .1 .1 .1 .0) in
-      stays-keep (is-aligned (line st h) a) (with-claim (line st h) a) g _ (λ f. claim-keeps (line st h) a (of h) s six (aligned-then (line st h) a f)) (copies-keep (line st h) (line st h .len) a false (λ got. 0) g (of h) s six (λ got q. refl)) d
+      let covered = ltb-false a (line st h .kind .align) (ps .1 .1 .1 .1 .0) in
+      stays-keep (is-aligned (line st h) a) (with-claim (line st h) a) g _ (λ f. claim-keeps (line st h) a (of h) s covered (aligned-then (line st h) a f)) (copies-keep (line st h) (line st h .len) a false (λ got. 0) g (of h) s covered (λ got q. refl)) d
   kept-on extent (EnsureAligned h a) g s ps (p, q) =
       subst Lines-keep (sym q) (put-keeps st (with-claim (line st h) a) (claim-keeps (line st h) a (of h) s (ltb-false a (line st h .kind .align) (ps .1 .1 .1 .1 .0)) (aligned-then (line st h) a (not-false (is-aligned (line st h) a) (ps .1 .1 .1 .1 .1 .0)))) e)
   kept-on extent (Read h) g s ps (p, q) = subst Lines-keep (sym q) e

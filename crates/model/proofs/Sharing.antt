@@ -1,4 +1,4 @@
--- Sharing and taking.
+-- Sharing a line, and taking its contents.
 use mathlib.Core.Bool.{Bool, true, false}
 use mathlib.Core.List.{_∷_}
 use mathlib.Core.Logic.{_⊎_, inl, inr}
@@ -97,9 +97,9 @@ module _ (st st′ : State) (tb tb′ : Table) (inv : Inv st tb) (s n : ℕ) (l 
       differ (inr p) (inl q) z = p .0 (sym (p .1) ∙ sym z ∙ q .1)
       differ (inr p) (inr q) z = d (sym (q .1) ∙ z ∙ p .1)
 
-  pub handed : Inv st′ tb′
+  pub taken : Inv st′ tb′
   unfolding Origin
-  handed = record {
+  taken = record {
     law = subst Lawful (sym meaning) (inv .law);
     long = ap length bytes ∙ inv .long ∙ ap (λ z. z .extent) (sym meaning);
     order = order;
