@@ -36,8 +36,8 @@ pub record Brings : Type 0 where
   pub fitting : Bool
   pub makes : Bool
 
-abbrev pub nothing-but-makes : Brings
-nothing-but-makes = record { handles = []; fitting = true; makes = true }
+abbrev pub only-makes : Brings
+only-makes = record { handles = []; fitting = true; makes = true }
 
 abbrev pub uses : Handle → Bool → Brings
 uses h fitting = record { handles = h ∷ []; fitting = fitting; makes = false }
@@ -46,10 +46,10 @@ abbrev pub makes-from : Handle → Bool → Brings
 makes-from h fitting = record { handles = h ∷ []; fitting = fitting; makes = true }
 
 abbrev pub brings : Call → Brings
-brings (WithCapacity k c a p) = nothing-but-makes
-brings (Zeroed k mutable n a p) = nothing-but-makes
-brings (CopyFrom k mutable vs a p) = nothing-but-makes
-brings (EmptyShared k a) = nothing-but-makes
+brings (WithCapacity k c a p) = only-makes
+brings (Zeroed k mutable n a p) = only-makes
+brings (CopyFrom k mutable vs a p) = only-makes
+brings (EmptyShared k a) = only-makes
 brings (Reserve h n) = uses h (h .mutable)
 brings (Append h vs) = uses h (h .mutable)
 brings (Truncate h n) = uses h (h .mutable)
