@@ -1,5 +1,5 @@
 -- Alignments and multiples of them.
-use mathlib.Core.Logic.{_⊎_, ⊎-elim}
+use mathlib.Core.Logic.{⊎-elim}
 use mathlib.Core.Path.{_≡_, refl, sym, ap, subst, _∙_}
 use Prim.Native.Nat.{ℕ, _%_, _^_, _<_, _≤_, max}
 use native.Mathlib.Nat.{mod-self, mod-eq-zero-of-dvd, dvd-of-mod-eq-zero, dvd-trans}

@@ -1,16 +1,18 @@
 -- The law over runs, part by part.
 use mathlib.Core.Bool.{_&&_, Bool, true, false, cond, not, _||_}
 use mathlib.Core.List.{List, [], _∷_}
-use mathlib.Core.Logic.{_⊎_, inl, inr, ⊎-elim}
+use mathlib.Core.Logic.{inl, inr, ⊎-elim}
 use mathlib.Core.Path.{_≡_, refl, sym, ap, subst, _∙_}
-use Prim.Native.Nat.{_^_, ℕ, _+_, _-_, _*_, _%_, _<_, _≤_, max}
-use native.Mathlib.Nat.{mul-mod-left}
+use Prim.Native.Nat.{_-_, _^_, ℕ, _+_, _*_, _%_, _<_, _≤_, max}
+use native.Mathlib.Nat.{zero-mul, mul-mod-left}
 use native.Mathlib.Omega.{arith}
 use lib.Dec.{eqb, ltb, leb}
 use lib.ListN.{length}
 use Rattle.std.specs.declared.option.Option.the-variants.{Some, None}
+use Rattle.std.specs.declared.option.Option.{Option}
 use Rattle.std.proofs.shelf.Tests.{le-ltb, lt-leb, cases-lt, eq-eqb, not-true, and-parts, ltb-false}
-use Rattle.region.specs.Bytes.{equal}
+use Rattle.region.specs.Bytes.{equal, part}
+use Rattle.region.proofs.Parts.{part-none}
 use Rattle.region.proofs.Writes.{equal-decides}
 use Rattle.allocation.specs.declared.block.Block.{Block}
 use Rattle.allocation.specs.declared.fault.Fault.{Fault}
@@ -21,25 +23,41 @@ use Rattle.allocation.specs.Meaning.{Among}
 use Rattle.allocation.specs.Refusals.{number, refusal-of}
 use Rattle.model.specs.declared.line.Handle.{Handle}
 use Rattle.model.specs.declared.line.Line.{Line}
-use Rattle.model.specs.Book.{State, known, line, line-limit, look-up, serial-limit, serial-of, shared-by}
+use Rattle.model.specs.Book.{State, block-of, known, line, line-limit, look-up, serial-limit, serial-of, shared-by, shown}
 use Rattle.model.specs.Calls.{granted, read, try-into-mut, with-capacity-in}
 use Rattle.model.specs.Checks.{checks, full, refusal, request-for}
 use Rattle.model.specs.Keyed.{find}
-use Rattle.model.specs.Laws.{Blocks-law, Fresh-law, Grant-law, Has-other, Kept, Lines-law, Parts-law, Room-law, Rows-law, Sharing-law, Shows, Store-law, asked-bytes}
+use Rattle.model.specs.Laws.{Blocks-law, Frame-law, Fresh-law, Grant-law, Has-other, Kept, Lines-law, Parts-law, Place-law, Room-law, Rows-law, Sharing-law, Shows, Store-law, asked-bytes}
 use Rattle.model.specs.Patterns.{Even, joined}
-use Rattle.model.specs.Pedigree.{Row, row}
-use Rattle.model.specs.Reads.{fails, same, says}
+use Rattle.model.specs.Pedigree.{Row, Table, row}
+use Rattle.model.specs.Reads.{fails, place-on, same, says}
 use Rattle.model.specs.Runs.{Store, next, start}
 use Rattle.model.proofs.Alignments.{valid-for}
 use Rattle.model.proofs.Checks.{Held, Passed, Stopped, held, passed, past, stopped, unrefused}
-use Rattle.model.proofs.Fitting.{sits-off, sits-on}
+use Rattle.model.proofs.Fitting.{shown-is, shown-none, sits-off, sits-on}
+use Rattle.model.proofs.Frame.{framed}
 use Rattle.model.proofs.Fresh.{clear-of}
-use Rattle.model.proofs.Keeps.{fit, no-other, some-other}
+use Rattle.model.proofs.Invariant.{Fits, Inv}
+use Rattle.model.proofs.Keeps.{fit, inside, no-other, some-other}
 use Rattle.model.proofs.Keyed.{find-cons, rising-high}
 use Rattle.model.proofs.Lines.{kept-at}
 use Rattle.model.proofs.Patterns.{joined-one-to-one, length-joined}
 use Rattle.model.proofs.Runs.{Holds, Inv-of, holds-in, inv-at, reached-holds}
 use Rattle.model.proofs.Shapes.{never}
+
+-- a part lies in the region
+placed : (st : State) (tb : Table) → Inv st tb → (h : Handle) (l : Line) {r : Row} → l .kind ≡ h .kind → look-up (h .serial) st ≡ Some l → Fits (st .meaning .base) (st .bytes) l r → (o : Option Block) → block-of (l .backing) ≡ o
+    → (place-on (block-of (l .backing)) (st .meaning .base) l + l .len * h .kind .width ≤ length (st .bytes)) × (shown (st .meaning .base) l (st .bytes) ≡ part (place-on (block-of (l .backing)) (st .meaning .base) l) (l .len * h .kind .width) (st .bytes))
+placed st tb inv h l k e f None b =
+    let z = sits-off (st .meaning .base) l b (f .sits) in
+    let none : l .len * h .kind .width ≡ 0 = ap (λ n. n * h .kind .width) (z .0) ∙ zero-mul (h .kind .width) in
+    let place : place-on (block-of (l .backing)) (st .meaning .base) l ≡ 0 = ap (λ o. place-on o (st .meaning .base) l) b in
+    (omega (arith, none, place), shown-none (st .meaning .base) l (st .bytes) b ∙ sym (ap (λ n. part (place-on (block-of (l .backing)) (st .meaning .base) l) n (st .bytes)) none ∙ part-none _ (st .bytes)))
+placed st tb inv h l k e f (Some B) b =
+    let z = sits-on (st .meaning .base) l B b (f .sits) in
+    let place : place-on (block-of (l .backing)) (st .meaning .base) l ≡ l .start - st .meaning .base = ap (λ o. place-on o (st .meaning .base) l) b in
+    let wide : l .len * h .kind .width ≡ l .len * l .kind .width = ap (λ z. l .len * z .width) (sym k) in
+    (omega (arith, place, wide, z .0, z .1, inside st tb inv (h .serial) l e B b), shown-is (st .meaning .base) l (st .bytes) B b ∙ (λ i. part (sym place i) (sym wide i) (st .bytes)))
 
 -- what a shown part is
 record Seen (h : Handle) (r : Row) (xs : List ℕ) : Type 0 where
@@ -151,6 +169,16 @@ room-law w r s i none-live n k c f st′ sound why (e, q) = ⊎-elim (λ (a : st
     granted-then : size ≤ st .meaning .room → ⊥
     granted-then a = mathlib.Core.Bool.true≢false (sym (inv .law .first vacant (request-for size) (valid-for size (refuses .0)) (omega arith) (omega arith)) ∙ refuses .1)
 
+frame-law : Frame-law
+frame-law w r s i n c a st′ sound q t l e u = let f = holds-in w (reached-holds w r) s i in framed (s .state) (s .table) (f .0) (f .1) n c a st′ sound q t l e u
+
+place-law : Place-law
+place-law w r s i n h ok =
+    let inv = inv-at w r s i in
+    let k = held (s .state) h (passed (checks (s .state) n (read h)) ok .1 .1 .0) in
+    let f = inv .spelled (h .serial) (line (s .state) h) (k .at) .2 in
+    placed (s .state) (s .table) inv h (line (s .state) h) (k .kind) (k .at) f (block-of (line (s .state) h .backing)) refl
+
 fresh-law : Fresh-law
 fresh-law w r s i mark n c g st′ (e, d) b d′ x y = clear-of (s .state) (inv-at w r s i .law) mark c g st′ d b d′ x y
 
@@ -217,4 +245,4 @@ grant-law w r s i none-live n k c sound long left room small =
     yields false = refl
 
 pub store-law : Store-law
-store-law = (rows-law, lines-law, parts-law, blocks-law, fresh-law, sharing-law, room-law, grant-law)
+store-law = (rows-law, lines-law, parts-law, place-law, frame-law, blocks-law, fresh-law, sharing-law, room-law, grant-law)

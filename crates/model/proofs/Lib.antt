@@ -16,6 +16,7 @@ pub mod Making
 pub mod Calls
 pub mod Runs
 pub mod Fresh
+pub mod Frame
 pub mod Law
 pub mod Strip
 pub mod KeepsSure

@@ -4,7 +4,7 @@ use Prim.Native.Nat.{ℕ}
 use Rattle.std.specs.declared.option.Option.the-variants.{Some, None}
 use Rattle.allocation.specs.declared.fault.Fault.{Fault}
 use Rattle.model.specs.Book.{State}
-use Rattle.model.specs.Calls.{Call, Grant, Answer, refused, granted}
+use Rattle.model.specs.Calls.{Answer, Call, Grant, granted, refused}
 use Rattle.model.specs.Checks.{checks, refusal}
 use Rattle.model.specs.Effects.{Does}
 

@@ -3,17 +3,17 @@ use mathlib.Core.Bool.{Bool, true, false, cond}
 use mathlib.Core.List.{List, []}
 use Prim.Native.Nat.{ℕ, _-_, _*_, _^_}
 use lib.Dec.{eqb}
-use Rattle.std.specs.declared.option.Option.{Option}
 use Rattle.std.specs.declared.option.Option.the-variants.{Some, None}
+use Rattle.std.specs.declared.option.Option.{Option}
 use Rattle.region.specs.Bytes.{part}
 use Rattle.allocation.specs.declared.block.Block.{Block}
 use Rattle.allocation.specs.Faults.{same-block}
 use Rattle.allocation.specs.Meaning.{Meaning}
 use Rattle.model.specs.declared.line.Backing.{Backing}
-use Rattle.model.specs.declared.line.Backing.the-variants.{Unbacked, Empty, Owned}
+use Rattle.model.specs.declared.line.Backing.the-variants.{Empty, Owned, Unbacked}
 use Rattle.model.specs.declared.line.Handle.{Handle}
 use Rattle.model.specs.declared.line.Line.{Line}
-use Rattle.model.specs.Keyed.{find, any-other}
+use Rattle.model.specs.Keyed.{any-other, find}
 use Rattle.model.specs.Kinds.{byte}
 
 -- how many handles may be live at once

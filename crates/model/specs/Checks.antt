@@ -4,22 +4,22 @@ use mathlib.Core.List.{List, [], _∷_, _++_}
 use Prim.Native.Nat.{ℕ, _+_, _-_, _*_, _%_, _^_, max}
 use lib.Dec.{eqb, ltb, leb}
 use lib.ListN.{length}
-use Rattle.std.specs.declared.option.Option.{Option}
 use Rattle.std.specs.declared.option.Option.the-variants.{Some, None}
-use Rattle.allocation.specs.Alignments.{greatest-size}
+use Rattle.std.specs.declared.option.Option.{Option}
 use Rattle.allocation.specs.declared.block.Block.{Block}
 use Rattle.allocation.specs.declared.block.Request.{Request}
 use Rattle.allocation.specs.declared.fault.Fault.{Fault}
 use Rattle.allocation.specs.declared.fault.Fault.the-variants.{Alone, Asked}
 use Rattle.allocation.specs.declared.fault.Layer.the-variants.{Allocator}
-use Rattle.allocation.specs.declared.fault.Refusal.the-variants.{RegionDiffers, UnknownHandle, NoHandleLeft, BelowKindAlignment, Overflow, LayoutTooLarge, NotGranted, BoundOverflow, RangeReversed, RangeBeyondLength, OffsetUnaligned, StartUnaligned, PartialElement, IndexBeyondLength, BackingShared}
+use Rattle.allocation.specs.declared.fault.Refusal.the-variants.{BackingShared, BelowKindAlignment, BoundOverflow, IndexBeyondLength, LayoutTooLarge, NoHandleLeft, NotGranted, OffsetUnaligned, Overflow, PartialElement, RangeBeyondLength, RangeReversed, RegionDiffers, StartUnaligned, UnknownHandle}
+use Rattle.allocation.specs.Alignments.{greatest-size}
 use Rattle.allocation.specs.Meaning.{Meaning}
 use Rattle.model.specs.declared.line.Bound.{Bound}
-use Rattle.model.specs.declared.line.Bound.the-variants.{Included, Excluded, Unbounded}
+use Rattle.model.specs.declared.line.Bound.the-variants.{Excluded, Included, Unbounded}
 use Rattle.model.specs.declared.line.Handle.{Handle}
 use Rattle.model.specs.declared.line.Line.{Line}
-use Rattle.model.specs.Book.{State, line-limit, serial-limit, usable, block-of, line, known, shared-by}
-use Rattle.model.specs.Calls.{Call, WithCapacity, Zeroed, CopyFrom, EmptyShared, Reserve, Append, Truncate, Clear, Set, Take, AlignedMut, Freeze, IntoBytes, FromBytes, Share, Slice, TryIntoMut, IntoMut, Aligned, EnsureAligned, Read, Release, Claim, Given, Inherited, Of-kind, preferred-alignment}
+use Rattle.model.specs.Book.{State, block-of, known, line, line-limit, serial-limit, shared-by, usable}
+use Rattle.model.specs.Calls.{Aligned, AlignedMut, Append, Call, Claim, Clear, CopyFrom, EmptyShared, EnsureAligned, Freeze, FromBytes, Given, Inherited, IntoBytes, IntoMut, Of-kind, Read, Release, Reserve, Set, Share, Slice, Take, Truncate, TryIntoMut, WithCapacity, Zeroed, preferred-alignment}
 use Rattle.model.specs.Kinds.{is-byte}
 
 -- what a check finds, and the refusal that it then is

@@ -5,20 +5,20 @@ use mathlib.Core.Path.{_≡_}
 use Prim.Native.Nat.{ℕ, _+_, _-_, _*_, _/_, _^_, max}
 use lib.Dec.{eqb, ltb, leb}
 use lib.ListN.{length, replicate}
-use Rattle.std.specs.declared.option.Option.{Option}
 use Rattle.std.specs.declared.option.Option.the-variants.{Some, None}
-use Rattle.region.specs.Bytes.{part, overwrite}
-use Rattle.allocation.specs.Alignments.{round-up}
+use Rattle.std.specs.declared.option.Option.{Option}
+use Rattle.region.specs.Bytes.{overwrite, part}
 use Rattle.allocation.specs.declared.block.Block.{Block}
 use Rattle.allocation.specs.declared.block.Request.{Request}
-use Rattle.allocation.specs.Meaning.{Meaning, Allocates, Frees, Grows}
+use Rattle.allocation.specs.Alignments.{round-up}
+use Rattle.allocation.specs.Meaning.{Allocates, Frees, Grows, Meaning}
 use Rattle.model.specs.declared.line.Backing.{Backing}
-use Rattle.model.specs.declared.line.Backing.the-variants.{Unbacked, Empty, Owned}
+use Rattle.model.specs.declared.line.Backing.the-variants.{Empty, Owned, Unbacked}
 use Rattle.model.specs.declared.line.Kind.{Kind}
 use Rattle.model.specs.declared.line.Line.{Line}
-use Rattle.model.specs.Book.{State, usable, block-of, serial-of, line, shared-by, shown}
-use Rattle.model.specs.Calls.{Call, WithCapacity, Zeroed, CopyFrom, EmptyShared, Reserve, Append, Truncate, Clear, Set, Take, AlignedMut, Freeze, IntoBytes, FromBytes, Share, Slice, TryIntoMut, IntoMut, Aligned, EnsureAligned, Read, Release, preferred-alignment, Grant, giving, done}
-use Rattle.model.specs.Checks.{request-for, enough, wanted-bytes, wanted-request, takes-new, begin, finish, claimed, is-aligned}
+use Rattle.model.specs.Book.{State, block-of, line, serial-of, shared-by, shown, usable}
+use Rattle.model.specs.Calls.{Aligned, AlignedMut, Append, Call, Clear, CopyFrom, EmptyShared, EnsureAligned, Freeze, FromBytes, Grant, IntoBytes, IntoMut, Read, Release, Reserve, Set, Share, Slice, Take, Truncate, TryIntoMut, WithCapacity, Zeroed, done, giving, preferred-alignment}
+use Rattle.model.specs.Checks.{begin, claimed, enough, finish, is-aligned, request-for, takes-new, wanted-bytes, wanted-request}
 use Rattle.model.specs.Keyed.{update, without}
 use Rattle.model.specs.Kinds.{byte}
 use Rattle.model.specs.Patterns.{joined}

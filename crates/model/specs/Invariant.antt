@@ -1,17 +1,17 @@
 -- What holds of a store between calls, whatever bytes its region holds: its lines over the plain parts of what its allocator means.
 use mathlib.Core.Bool.{Bool, true, false}
-use mathlib.Core.List.{List, [], _∷_}
+use mathlib.Core.List.{List}
 use mathlib.Core.Path.{_≡_}
 use Prim.Native.Nat.{ℕ, _+_, _*_, _%_, _≤_}
 use lib.ListN.{length}
-use Rattle.std.specs.declared.option.Option.{Option}
 use Rattle.std.specs.declared.option.Option.the-variants.{Some, None}
-use Rattle.allocation.specs.Alignments.{Is-alignment}
+use Rattle.std.specs.declared.option.Option.{Option}
 use Rattle.allocation.specs.declared.block.Block.{Block}
-use Rattle.allocation.specs.Meaning.{Meaning, Among}
+use Rattle.allocation.specs.Alignments.{Is-alignment}
+use Rattle.allocation.specs.Meaning.{Among, Meaning, end-of}
 use Rattle.model.specs.declared.line.Line.{Line}
-use Rattle.model.specs.Book.{State, line-limit, serial-limit, block-of, serial-of}
-use Rattle.model.specs.Keyed.{All, find, Rising}
+use Rattle.model.specs.Book.{State, block-of, line-limit, serial-limit, serial-of}
+use Rattle.model.specs.Keyed.{All, Rising, find}
 use Rattle.model.specs.Kinds.{Sound-kind}
 
 -- an allocator's meaning without its two rules
@@ -30,8 +30,8 @@ abbrev pub Sits : ℕ → Line → Option Block → Type 0
 Sits base l None = (l .len ≡ 0) × (l .capacity ≡ 0)
 Sits base l (Some b) =
     (base + b .place ≤ l .start)
-    × (l .start + l .len * l .kind .width ≤ base + (b .place + b .size))
-    × (l .start + l .capacity * l .kind .width ≤ base + (b .place + b .size))
+    × (l .start + l .len * l .kind .width ≤ base + end-of b)
+    × (l .start + l .capacity * l .kind .width ≤ base + end-of b)
 
 -- a line's numbers
 pub record Kept-line (l : Line) : Type 0 where

@@ -6,27 +6,28 @@ use mathlib.Core.Path.{_≡_}
 use Prim.Native.Nat.{ℕ, _+_, _*_, _%_, _≤_, _<_, max}
 use lib.ListN.{length}
 use Rattle.std.specs.declared.option.Option.the-variants.{Some, None}
-use Rattle.region.specs.Bytes.{equal}
-use Rattle.allocation.specs.Alignments.{Is-alignment, greatest-size}
+use Rattle.region.specs.Bytes.{equal, part}
 use Rattle.allocation.specs.declared.block.Block.{Block}
 use Rattle.allocation.specs.declared.fault.Fault.{Fault}
 use Rattle.allocation.specs.declared.fault.Fault.the-variants.{Alone}
-use Rattle.allocation.specs.declared.fault.Refusal.the-variants.{NotGranted, BackingShared}
-use Rattle.allocation.specs.Meaning.{Lawful, Among, Apart, end-of}
+use Rattle.allocation.specs.declared.fault.Refusal.the-variants.{BackingShared, NotGranted}
+use Rattle.allocation.specs.Alignments.{Is-alignment, greatest-size}
+use Rattle.allocation.specs.Meaning.{Among, Apart, Lawful, end-of}
 use Rattle.allocation.specs.Refusals.{refusal-of}
 use Rattle.model.specs.declared.line.Handle.{Handle}
 use Rattle.model.specs.declared.line.Kind.{Kind}
 use Rattle.model.specs.declared.line.Line.{Line}
 use Rattle.model.specs.Answers.{Answers}
-use Rattle.model.specs.Book.{State, line-limit, serial-limit, block-of, one-backing, look-up, line}
-use Rattle.model.specs.Calls.{Call, Grant, Answer, granted, read, try-into-mut, with-capacity-in, preferred-alignment, refused}
-use Rattle.model.specs.Checks.{checks, refusal}
+use Rattle.model.specs.Book.{State, block-of, line, line-limit, look-up, one-backing, serial-limit, shown}
+use Rattle.model.specs.Calls.{Answer, Call, Grant, granted, preferred-alignment, read, refused, try-into-mut, with-capacity-in}
+use Rattle.model.specs.Checks.{brings, checks, refusal}
 use Rattle.model.specs.Invariant.{Plain, Sure, Sure-of}
+use Rattle.model.specs.Keyed.{All}
 use Rattle.model.specs.Kinds.{Sound-kind}
 use Rattle.model.specs.Patterns.{joined}
 use Rattle.model.specs.Pedigree.{Row, row}
-use Rattle.model.specs.Reads.{slice-bytes, same, says}
-use Rattle.model.specs.Runs.{Sound, Store, World, In, Reached}
+use Rattle.model.specs.Reads.{len-of, same, says, slice-bytes, slice-place}
+use Rattle.model.specs.Runs.{In, Reached, Sound, Store, World}
 
 -- a line and a row of one handle: as many elements of the same kind, over the same block
 pub record Agree (l : Line) (r : Row) : Type 0 where
@@ -77,6 +78,22 @@ Parts-law =
     × (same (g .kind) xs ys ≡ says (equal xs ys))
     × ((same (g .kind) xs ys ≡ says true) ↔ (p .list ≡ q .list))
 
+-- a part lies in the region: at its place, as many bytes as the elements have
+abbrev pub Place-law : Type 0
+Place-law =
+    (w : World) → Reached w → (s : Store) → In s w
+    → (n : ℕ) (h : Handle) → refusal (checks (s .state) n (read h)) ≡ None
+    → (slice-place (s .state) h + len-of (s .state) h * h .kind .width ≤ length (s .state .bytes))
+    × (slice-bytes (s .state) h ≡ part (slice-place (s .state) h) (len-of (s .state) h * h .kind .width) (s .state .bytes))
+
+-- a call changes no line but those of its handles, and no part that another handle shows
+abbrev pub Frame-law : Type 0
+Frame-law =
+    (w : World) → Reached w → (s : Store) → In s w
+    → (n : ℕ) (c : Call) (a : Answer) (st′ : State) → Sound c → Answers (s .state) n c a st′
+    → (t : ℕ) (l : Line) → look-up t (s .state) ≡ Some l → All (λ h. h .serial ≡ t → ⊥) (brings c .handles)
+    → (look-up t st′ ≡ Some l) × (shown (st′ .meaning .base) l (st′ .bytes) ≡ shown (s .state .meaning .base) l (s .state .bytes))
+
 -- the live blocks are those under rows
 abbrev pub Blocks-law : Type 0
 Blocks-law =
@@ -121,7 +138,7 @@ Grant-law =
 
 -- the whole law
 abbrev pub Store-law : Type 0
-Store-law = Rows-law × Lines-law × Parts-law × Blocks-law × Fresh-law × Sharing-law × Room-law × Grant-law
+Store-law = Rows-law × Lines-law × Parts-law × Place-law × Frame-law × Blocks-law × Fresh-law × Sharing-law × Room-law × Grant-law
 
 -- The invariant of a state alone: it holds of a new store and in every world that a run comes to, every call keeps it, and nothing is lost where only its truth is kept.
 abbrev pub Invariant-law : Type 0

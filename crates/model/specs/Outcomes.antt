@@ -8,12 +8,12 @@ use lib.ListN.{length}
 use Rattle.std.specs.declared.option.Option.the-variants.{Some}
 use Rattle.allocation.specs.declared.block.Block.{Block}
 use Rattle.allocation.specs.declared.block.Request.{Request}
-use Rattle.allocation.specs.Meaning.{Meaning, Valid, Among, Fixed, Allocates, Frees, Grows}
+use Rattle.allocation.specs.Meaning.{Allocates, Among, Fixed, Frees, Grows, Meaning, Valid}
 use Rattle.model.specs.declared.line.Line.{Line}
 use Rattle.model.specs.Answers.{Answers}
 use Rattle.model.specs.Book.{State, look-up, shown}
-use Rattle.model.specs.Calls.{Call, Answer, refused, granted}
-use Rattle.model.specs.Runs.{Sound, Store, World, In, Reached}
+use Rattle.model.specs.Calls.{Answer, Call, granted, refused}
+use Rattle.model.specs.Runs.{In, Reached, Sound, Store, World}
 
 module _ {B : Type 0} where
   -- What the values of an allocator's type can do, given what they mean: whatever the rules grant is done, by some block, and leaves a value of the type.

@@ -1,18 +1,18 @@
 -- The table of pedigrees: fed every call and its answer, and nothing of the store.
-use mathlib.Core.Bool.{Bool, cond}
+use mathlib.Core.Bool.{cond}
 use mathlib.Core.List.{List, [], _∷_, _++_}
 use Prim.Native.Nat.{ℕ, _-_, _/_}
 use lib.ListN.{length, take, drop, set, replicate}
-use Rattle.std.specs.declared.option.Option.{Option}
 use Rattle.std.specs.declared.option.Option.the-variants.{Some, None}
+use Rattle.std.specs.declared.option.Option.{Option}
 use Rattle.allocation.specs.declared.block.Block.{Block}
 use Rattle.model.specs.declared.line.Bound.{Bound}
 use Rattle.model.specs.declared.line.Kind.{Kind}
-use Rattle.model.specs.Calls.{Call, WithCapacity, Zeroed, CopyFrom, EmptyShared, Reserve, Append, Truncate, Clear, Set, Take, AlignedMut, Freeze, IntoBytes, FromBytes, Share, Slice, TryIntoMut, IntoMut, Aligned, EnsureAligned, Read, Release, Grant, Answer, refused, granted}
+use Rattle.model.specs.Calls.{Aligned, AlignedMut, Answer, Append, Call, Clear, CopyFrom, EmptyShared, EnsureAligned, Freeze, FromBytes, Grant, IntoBytes, IntoMut, Read, Release, Reserve, Set, Share, Slice, Take, Truncate, TryIntoMut, WithCapacity, Zeroed, granted, refused}
 use Rattle.model.specs.Checks.{begin, finish}
 use Rattle.model.specs.Keyed.{find, update, without}
 use Rattle.model.specs.Kinds.{byte}
-use Rattle.model.specs.Patterns.{joined, chunks}
+use Rattle.model.specs.Patterns.{chunks, joined}
 
 -- a live handle's row: the list that its pedigree spells, as patterns of its kind, and the block under it or none
 pub record Row : Type 0 where

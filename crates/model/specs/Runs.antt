@@ -8,7 +8,7 @@ use Rattle.allocation.specs.Alignments.{Is-alignment}
 use Rattle.allocation.specs.Meaning.{Lawful}
 use Rattle.model.specs.Answers.{Answers}
 use Rattle.model.specs.Book.{State}
-use Rattle.model.specs.Calls.{Call, WithCapacity, Zeroed, CopyFrom, EmptyShared, Reserve, Append, Truncate, Clear, Set, Take, AlignedMut, Freeze, IntoBytes, FromBytes, Share, Slice, TryIntoMut, IntoMut, Aligned, EnsureAligned, Read, Release, Claim, Given, Inherited, Of-kind, Answer}
+use Rattle.model.specs.Calls.{Aligned, AlignedMut, Answer, Append, Call, Claim, Clear, CopyFrom, EmptyShared, EnsureAligned, Freeze, FromBytes, Given, Inherited, IntoBytes, IntoMut, Of-kind, Read, Release, Reserve, Set, Share, Slice, Take, Truncate, TryIntoMut, WithCapacity, Zeroed}
 use Rattle.model.specs.Keyed.{All}
 use Rattle.model.specs.Kinds.{Sound-kind}
 use Rattle.model.specs.Patterns.{Even}

@@ -7,9 +7,9 @@ use lib.ListN.{length}
 use Rattle.model.specs.declared.line.Handle.{Handle}
 use Rattle.model.specs.Keyed.{All}
 use Rattle.model.specs.Laws.{Shows}
-use Rattle.model.specs.Patterns.{joined, Even}
+use Rattle.model.specs.Patterns.{Even, joined}
 use Rattle.model.specs.Pedigree.{Row}
-use Rattle.model.specs.Runs.{Store, World, In, Reached}
+use Rattle.model.specs.Runs.{In, Reached, Store, World}
 
 -- each is a byte
 abbrev pub Bytes : List ℕ → Type 0
