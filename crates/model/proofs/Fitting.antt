@@ -13,7 +13,7 @@ use Rattle.std.specs.declared.option.Option.{Option}
 use Rattle.std.proofs.shelf.Lists.{nil-from-length}
 use Rattle.std.proofs.shelf.Tests.{cases-lt}
 use Rattle.region.specs.Bytes.{overwrite, part}
-use Rattle.region.proofs.Parts.{outside-overwrite, part-none, part-outside, part-overwrite, part-overwrite-inside, part-part, part-split}
+use Rattle.region.proofs.Parts.{outside-written, part-none, part-outside, part-overwrite-inside, part-part, part-split, part-written}
 use Rattle.allocation.specs.declared.block.Block.{Block}
 use Rattle.model.specs.declared.line.Kind.{Kind}
 use Rattle.model.specs.declared.line.Line.{Line}
@@ -158,9 +158,9 @@ fits-append base xs l r vs B f e long h k =
     let m : l .len * w + n * w ≤ l .capacity * w = omega (arith, mul-le-mul-right w h) in
     let m′ : (l .len + n) * w ≡ l .len * w + n * w = omega arith in
     let a = part-split spot (l .len * w) (n * w) ys in
-    let o = outside-overwrite (spot + l .len * w) (n * w) (spot + l .len * w) (joined vs) xs (omega arith) (omega arith) (omega (arith, s .0, s .2)) in
+    let o = outside-written (spot + l .len * w) (n * w) (spot + l .len * w) (joined vs) xs (omega arith) (omega arith) (omega (arith, s .0, s .2)) in
     let b = part-outside (spot + l .len * w) (n * w) spot (l .len * w) xs ys o (inl (omega arith)) (omega (arith, s .0, s .2)) in
-    let c = part-overwrite (spot + l .len * w) (n * w) (joined vs) xs g (omega (arith, s .0, s .2)) in
+    let c = part-written (spot + l .len * w) (n * w) (joined vs) xs g (omega (arith, s .0, s .2)) in
     record {
       kind = f .kind;
       block = f .block;

@@ -14,7 +14,7 @@ use Rattle.std.specs.declared.option.Option.{Option}
 use Rattle.std.proofs.shelf.Lists.{nil-from-length}
 use Rattle.std.proofs.shelf.Tests.{leb-true, leb-false}
 use Rattle.region.specs.Bytes.{Outside, overwrite}
-use Rattle.region.proofs.Parts.{outside-overwrite}
+use Rattle.region.proofs.Parts.{outside-written}
 use Rattle.allocation.specs.declared.block.Block.{Block}
 use Rattle.allocation.specs.Meaning.{Meaning}
 use Rattle.model.specs.declared.line.Backing.{Backing}
@@ -139,7 +139,7 @@ module _ (st : State) (tb : Table) (inv : Inv st tb) where
           let m = mul-le-mul-right (l .kind .width) h in
           let y = overwrite (l .start - st .meaning .base + i * l .kind .width) v (st .bytes) in
           let here = inv .held s l B e b in
-          let o : Outside (B .place) (B .size) (st .bytes) y = outside-overwrite (B .place) (B .size) (l .start - st .meaning .base + i * l .kind .width) v (st .bytes) (omega (arith, z .0)) (omega (arith, z .0, z .1)) (inside s l e B b) in
+          let o : Outside (B .place) (B .size) (st .bytes) y = outside-written (B .place) (B .size) (l .start - st .meaning .base + i * l .kind .width) v (st .bytes) (omega (arith, z .0)) (omega (arith, z .0, z .1)) (inside s l e B b) in
           revise st tb inv s l l (spelling (t .0) (set (t .0 .list) i v)) (st .lines) y (update key-of s (λ r. spelling r (set (r .list) i v)) tb) e (only-none (st .next) (st .lines) s l (inv .order) e)
           (rows-update tb s (λ r. spelling r (set (r .list) i v)) (t .0) (λ x. refl) (t .1)) refl (o .long)
           (undisturbed-outside st tb s (st .meaning) B y inv (inv .law) refl here o (λ C x. (inv .held (x .0) (x .1) C (x .3) (x .4), λ q. mathlib.Core.Bool.true≢false (sym mut ∙ inv .alone s (x .0) l (x .1) C (x .2) e (x .3) (b ∙ ap {B = Option Block} Some (sym q)) (x .4)))))

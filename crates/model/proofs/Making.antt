@@ -11,7 +11,7 @@ use Rattle.std.specs.declared.option.Option.the-variants.{Some, None}
 use Rattle.std.specs.declared.option.Option.{Option}
 use Rattle.std.proofs.shelf.Lists.{nil-from-length}
 use Rattle.region.specs.Bytes.{Outside, overwrite, part}
-use Rattle.region.proofs.Parts.{outside-none, outside-overwrite, part-none, part-overwrite, part-part, part-zeros}
+use Rattle.region.proofs.Parts.{outside-none, outside-written, part-none, part-part, part-written, part-zeros}
 use Rattle.region.proofs.Writes.{length-overwrite}
 use Rattle.allocation.specs.declared.block.Block.{Block}
 use Rattle.allocation.specs.Alignments.{round-up}
@@ -65,8 +65,8 @@ module _ (base m w c : ℕ) (one : 1 ≤ m) (xs : List ℕ) where
   placed-written vs (Some B) e h sized inside bare =
       let f = length-joined w vs e in
       let k = place-high B (length vs) (sized B refl) h in (
-        outside-overwrite (B .place) (B .size) (round-up (base + B .place) m - base) (joined vs) xs (place-low B) (omega arith) (inside B refl),
-        part-overwrite (round-up (base + B .place) m - base) (length vs * w) (joined vs) xs f (omega (arith, inside B refl)),
+        outside-written (B .place) (B .size) (round-up (base + B .place) m - base) (joined vs) xs (place-low B) (omega arith) (inside B refl),
+        part-written (round-up (base + B .place) m - base) (length vs * w) (joined vs) xs f (omega (arith, inside B refl)),
       )
 
   pub placed-zeros : (got : Option Block) → ((B : Block) → got ≡ Some B → B .size ≡ c * w + m) → ((B : Block) → got ≡ Some B → B .place + B .size ≤ length xs) → (got ≡ None → c ≡ 0)
@@ -79,10 +79,10 @@ module _ (base m w c : ℕ) (one : 1 ≤ m) (xs : List ℕ) where
       let n : length (replicate {A = List ℕ} c (replicate w 0)) ≡ c = length-replicate c (replicate w 0) in
       let ys = overwrite (B .place) (replicate (B .size) 0) xs in
       let long = length-overwrite (B .place) (replicate (B .size) 0) xs (omega (arith, inside B refl)) in (
-        outside-overwrite (B .place) (B .size) (B .place) (replicate (B .size) 0) xs (omega arith) (omega arith) (inside B refl),
+        outside-written (B .place) (B .size) (B .place) (replicate (B .size) 0) xs (omega arith) (omega arith) (inside B refl),
         ap (λ i. part spot (i * w) ys) n ∙ ap (λ i. part i (c * w) ys) (let q : spot ≡ B .place + (spot - B .place) = omega (arith, place-low B) in q)
             ∙ sym (part-part (B .place) (B .size) (spot - B .place) (c * w) ys (omega (arith, place-low B)) (omega (arith, inside B refl)))
-            ∙ ap (part (spot - B .place) (c * w)) (part-overwrite (B .place) (B .size) (replicate (B .size) 0) xs z (inside B refl))
+            ∙ ap (part (spot - B .place) (c * w)) (part-written (B .place) (B .size) (replicate (B .size) 0) xs z (inside B refl))
             ∙ part-zeros (spot - B .place) (c * w) (B .size) (omega (arith, place-low B)) ∙ sym (joined-zeros c w),
       )
 

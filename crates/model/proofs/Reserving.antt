@@ -12,7 +12,7 @@ use Rattle.std.specs.declared.option.Option.{Option}
 use Rattle.std.proofs.shelf.Lists.{nil-from-length}
 use Rattle.std.proofs.shelf.Tests.{cases-bool, leb-true, ltb-false, or-parts}
 use Rattle.region.specs.Bytes.{Outside, overwrite, part}
-use Rattle.region.proofs.Parts.{outside-more, outside-overwrite, part-overwrite, part-part}
+use Rattle.region.proofs.Parts.{outside-more, outside-written, part-part, part-written}
 use Rattle.region.proofs.Writes.{length-part}
 use Rattle.allocation.specs.declared.block.Block.{Block}
 use Rattle.allocation.specs.declared.block.Request.{Request}
@@ -68,10 +68,10 @@ module _ (st : State) (tb : Table) (inv : Inv st tb) (s : ℕ) (l : Line) (e : l
       written = n .writes
 
       out : Outside (B .place) (B .size) (st .bytes) ys
-      out = subst (Outside (B .place) (B .size) (st .bytes)) (sym written) (outside-overwrite (B .place) (B .size) spot (shown (st .meaning .base) l (st .bytes)) (st .bytes) low (omega (arith, long-shown, x .size)) fits)
+      out = subst (Outside (B .place) (B .size) (st .bytes)) (sym written) (outside-written (B .place) (B .size) spot (shown (st .meaning .base) l (st .bytes)) (st .bytes) low (omega (arith, long-shown, x .size)) fits)
 
       moves : part spot (l .len * l .kind .width) ys ≡ shown (st .meaning .base) l (st .bytes)
-      moves = ap (part spot (l .len * l .kind .width)) written ∙ part-overwrite spot (l .len * l .kind .width) (shown (st .meaning .base) l (st .bytes)) (st .bytes) long-shown (omega (arith, fits, x .size))
+      moves = ap (part spot (l .len * l .kind .width)) written ∙ part-written spot (l .len * l .kind .width) (shown (st .meaning .base) l (st .bytes)) (st .bytes) long-shown (omega (arith, fits, x .size))
 
       go : (o : Option Block) → block-of (l .backing) ≡ o → Gives-back (n .between) o a → Relocation st l (L .size) spot B a ys
       go None q g =
@@ -115,8 +115,8 @@ module _ (st : State) (tb : Table) (inv : Inv st tb) (s : ℕ) (l : Line) (e : l
         fixed = x .fixed;
         sized = x .size;
         outside = outside-more (B .place) (B .size) (st .bytes) (n .between) ys (x .outside)
-            (subst (Outside (B .place) (B .size) (n .between)) (sym (n .moves)) (outside-overwrite (B .place) (B .size) spot (part (B .place + off) w (n .between)) (n .between) low (omega (arith, x .size)) fits));
-        moved = ap (part spot w) (n .moves) ∙ part-overwrite spot w (part (B .place + off) w (n .between)) (n .between) long (omega (arith, x .size))
+            (subst (Outside (B .place) (B .size) (n .between)) (sym (n .moves)) (outside-written (B .place) (B .size) spot (part (B .place + off) w (n .between)) (n .between) low (omega (arith, x .size)) fits));
+        moved = ap (part spot w) (n .moves) ∙ part-written spot w (part (B .place + off) w (n .between)) (n .between) long (omega (arith, x .size))
             ∙ sym (part-part (B .place) (D .size) off w (n .between) (omega (arith, z .0, z .1)) (omega (arith, x .size)))
             ∙ ap (part off w) (x .kept) ∙ part-part (D .place) (D .size) off w (st .bytes) (omega (arith, z .0, z .1)) d ∙ ap (λ p. part p w (st .bytes)) spot-was
             ∙ sym (shown-is (st .meaning .base) l (st .bytes) D (n .was));
@@ -228,7 +228,7 @@ module _ (st : State) (tb : Table) (inv : Inv st tb) (s : ℕ) (l : Line) (e : l
           let z = sits-on (st .meaning .base) l B b (f .sits) in
           let m = mul-le-mul-right (l .kind .width) room in
           let g = length-joined (l .kind .width) vs even in
-          let o : Outside (B .place) (B .size) (st .bytes) ys = outside-overwrite (B .place) (B .size) (l .start - st .meaning .base + l .len * l .kind .width) (joined vs) (st .bytes) (omega (arith, z .0)) (omega (arith, z .0, z .2)) (inside st tb inv s l e B b) in
+          let o : Outside (B .place) (B .size) (st .bytes) ys = outside-written (B .place) (B .size) (l .start - st .meaning .base + l .len * l .kind .width) (joined vs) (st .bytes) (omega (arith, z .0)) (omega (arith, z .0, z .2)) (inside st tb inv s l e B b) in
           revise st tb inv s l l′ (spelling r (r .list ++ vs)) (update serial-of (l′ .serial) (λ _. l′) (st .lines)) ys tb′ e (only-put (st .next) (st .lines) s l l′ (inv .order) e q) rows refl (o .long)
           (undisturbed-outside st tb s (st .meaning) B ys inv (inv .law) refl (inv .held s l B e b) o (λ C x. (inv .held (x .0) (x .1) C (x .3) (x .4), λ p. mathlib.Core.Bool.true≢false (sym mut ∙ inv .alone s (x .0) l (x .1) C (x .2) e (x .3) (b ∙ ap {B = Option Block} Some (sym p)) (x .4)))))
           (fits-append (st .meaning .base) (st .bytes) l r vs B f b (inside st tb inv s l e B b) room even) (own-share st tb inv s l l′ e refl)

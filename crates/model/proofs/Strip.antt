@@ -16,6 +16,7 @@ use Rattle.allocation.specs.declared.block.Block.{Block}
 use Rattle.allocation.specs.Alignments.{greatest-exponent}
 use Rattle.allocation.specs.Faults.{same-block}
 use Rattle.allocation.specs.Meaning.{Among}
+use Rattle.allocation.proofs.Tables.{same-block-refl}
 use Rattle.model.specs.declared.line.Backing.the-variants.{Owned}
 use Rattle.model.specs.declared.line.Kind.{Kind}
 use Rattle.model.specs.declared.line.Line.{Line}
@@ -23,7 +24,7 @@ use Rattle.model.specs.Book.{block-of, one-backing, serial-of}
 use Rattle.model.specs.Invariant.{Counted, Kept-line, Plain, Sits, Stands, Sure}
 use Rattle.model.specs.Keyed.{All, Rising, any-other, find}
 use Rattle.model.specs.Kinds.{Sound-kind}
-use Rattle.model.proofs.Backings.{block-one, one-block, same-block-eq, same-block-refl}
+use Rattle.model.proofs.Backings.{block-one, one-block, same-block-eq}
 use Rattle.model.proofs.Keeps.{on-block}
 use Rattle.model.proofs.Keyed.{any-other-no, any-other-yes, rising-above}
 use Rattle.model.proofs.Shapes.{never}

@@ -5,10 +5,11 @@ use mathlib.Core.Path.{_≡_, refl, sym, ap, _∙_}
 use Prim.Native.Nat.{ℕ, _+_, _-_, _<_, _≤_}
 use native.Mathlib.Omega.{arith}
 use lib.ListN.{length, getD, take, drop, replicate}
-use lib.Seq.{take-add, drop-drop, ext-getD, getD-take, getD-drop, length-take-le}
-use Rattle.std.proofs.shelf.Lists.{getD-append-left, getD-append-right, drop-replicate, take-replicate}
+use lib.Seq.{take-add, drop-drop, ext-getD, getD-take, getD-drop}
+use Rattle.std.proofs.shelf.Lists.{drop-replicate, take-replicate}
 use Rattle.std.proofs.shelf.Tests.{cases-lt}
 use Rattle.region.specs.Bytes.{Outside, overwrite, part}
+use Rattle.region.proofs.Copies.{outside-overwrite, part-overwrite}
 use Rattle.region.proofs.Writes.{length-overwrite, length-part}
 
 pub getD-part : (p n : ℕ) (xs : List ℕ) (i : ℕ) → i < n → getD (part p n xs) i 0 ≡ getD xs (p + i) 0
@@ -19,32 +20,15 @@ pub part-none : (p : ℕ) (xs : List ℕ) → part p 0 xs ≡ []
 unfolding part
 part-none p xs = refl
 
-module _ (p : ℕ) (v xs : List ℕ) (h : p + length v ≤ length xs) where
-  before : length (take p xs) ≡ p
-  before = length-take-le p xs (omega arith)
+-- a byte of what was written, and a byte elsewhere
+pub getD-overwrite-in : (p : ℕ) (v xs : List ℕ) → p + length v ≤ length xs → (i : ℕ) → i < length v → getD (overwrite p v xs) (p + i) 0 ≡ getD v i 0
+getD-overwrite-in p v xs h i l = sym (getD-part p (length v) (overwrite p v xs) i l) ∙ ap (λ z. getD z i 0) (part-overwrite p v xs h (length v) refl)
 
-  pub getD-overwrite-in : (i : ℕ) → i < length v → getD (overwrite p v xs) (p + i) 0 ≡ getD v i 0
-  unfolding overwrite
-  getD-overwrite-in i l =
-      getD-append-right (take p xs) (v ++ drop (p + length v) xs) p (p + i) 0 before (omega arith)
-      ∙ (let e : p + i - p ≡ i = omega arith in rw e (getD-append-left v (drop (p + length v) xs) 0 i l))
+pub getD-overwrite-out : (p : ℕ) (v xs : List ℕ) → p + length v ≤ length xs → (i : ℕ) → (i < p) ⊎ (p + length v ≤ i) → getD (overwrite p v xs) i 0 ≡ getD xs i 0
+getD-overwrite-out p v xs h i l = outside-overwrite p v xs h (length v) (omega arith) .same i l
 
-  pub getD-overwrite-out : (i : ℕ) → (i < p) ⊎ (p + length v ≤ i) → getD (overwrite p v xs) i 0 ≡ getD xs i 0
-  unfolding overwrite
-  getD-overwrite-out i (inl l) =
-      getD-append-left (take p xs) (v ++ drop (p + length v) xs) 0 i (omega (arith, before)) ∙ getD-take p xs i 0 l
-  getD-overwrite-out i (inr l) =
-      getD-append-right (take p xs) (v ++ drop (p + length v) xs) p i 0 before (omega arith)
-      ∙ getD-append-right v (drop (p + length v) xs) (length v) (i - p) 0 refl (omega arith)
-      ∙ getD-drop (p + length v) xs (i - p - length v) 0
-      ∙ ap (λ k. getD xs k 0) (let e : p + length v + (i - p - length v) ≡ i = omega arith in e)
-
-pub part-overwrite : (p n : ℕ) (v xs : List ℕ) → length v ≡ n → p + n ≤ length xs → part p n (overwrite p v xs) ≡ v
-part-overwrite p n v xs e h =
-    let l = length-overwrite p v xs (omega arith) in
-    ext-getD 0 (part p n (overwrite p v xs)) v (length-part p n (overwrite p v xs) (omega arith) ∙ sym e) (λ i k.
-    let k′ : i < n = omega (arith, length-part p n (overwrite p v xs) (omega arith)) in
-    getD-part p n (overwrite p v xs) i k′ ∙ getD-overwrite-in p v xs (omega arith) i (omega arith))
+pub part-written : (p n : ℕ) (v xs : List ℕ) → length v ≡ n → p + n ≤ length xs → part p n (overwrite p v xs) ≡ v
+part-written p n v xs e h = part-overwrite p v xs (omega arith) n e
 
 pub part-split : (p m n : ℕ) (xs : List ℕ) → part p (m + n) xs ≡ part p m xs ++ part (p + m) n xs
 unfolding part
@@ -64,8 +48,9 @@ outside-none p n xs = record { long = refl; same = λ i h. refl }
 pub outside-more : (p n : ℕ) (xs ys between : List ℕ) → Outside p n xs ys → Outside p n ys between → Outside p n xs between
 outside-more p n xs ys between a b = record { long = b .long ∙ a .long; same = λ i h. b .same i h ∙ a .same i h }
 
-pub outside-overwrite : (p n q : ℕ) (v xs : List ℕ) → p ≤ q → q + length v ≤ p + n → p + n ≤ length xs → Outside p n xs (overwrite q v xs)
-outside-overwrite p n q v xs a b c = record { long = length-overwrite q v xs (omega arith); same = λ i h. getD-overwrite-out q v xs (omega arith) i (⊎-elim (λ k. inl (omega arith)) (λ k. inr (omega arith)) h) }
+-- a write inside a part leaves what is outside of the part
+pub outside-written : (p n q : ℕ) (v xs : List ℕ) → p ≤ q → q + length v ≤ p + n → p + n ≤ length xs → Outside p n xs (overwrite q v xs)
+outside-written p n q v xs a b c = record { long = length-overwrite q v xs (omega arith); same = λ i h. getD-overwrite-out q v xs (omega arith) i (⊎-elim (λ k. inl (omega arith)) (λ k. inr (omega arith)) h) }
 
 pub part-outside : (p n q m : ℕ) (xs ys : List ℕ) → Outside p n xs ys → (q + m ≤ p) ⊎ (p + n ≤ q) → q + m ≤ length xs → part q m ys ≡ part q m xs
 part-outside p n q m xs ys o d h =
