@@ -3,3 +3,4 @@ mod Edits
 pub mod Grants
 mod InWords
 pub mod Laws
+pub mod Own
