@@ -36,8 +36,10 @@ next-multiple a b m ea eb h = go (cases-lt (a / m) (b / m))
   where
     wa : a / m * m ≡ a
     wa = omega (arith, div-add-mod' a m)
+
     wb : b / m * m ≡ b
     wb = omega (arith, div-add-mod' b m)
+
     go : (a / m < b / m) ⊎ (b / m ≤ a / m) → a + m ≤ b
     go (inl k) = let s : a / m + 1 ≤ b / m = omega arith in omega (arith, mul-le-mul-right m s, add-mul (a / m) 1 m)
     go (inr k) = absurd (let t = mul-le-mul-right m k in omega arith)
@@ -58,6 +60,7 @@ pow-divides i j = ⊎-elim above below (cases-lt i j)
   where
     above : i < j → leb j i ≡ eqb ((2 ^ i) % (2 ^ j)) 0
     above h = let p = pow-pos i in lt-leb j i h ∙ sym (ne-eqb _ 0 (λ e. let r : (2 ^ i) % (2 ^ j) ≡ 2 ^ i = mod-eq-of-lt (pow-lt h) in omega arith))
+
     below : j ≤ i → leb j i ≡ eqb ((2 ^ i) % (2 ^ j)) 0
     below h = le-leb j i h ∙ sym (eq-eqb _ 0 (pow-multiple i j h))
 

@@ -19,7 +19,7 @@ pub const MAX_UNTRUSTED: usize = 1 << GREATEST_EXPONENT;
 pub const DEFAULT_ALIGNMENT: usize = 256;
 
 // A power of two, by its exponent.
-#[derive(Clone, Copy, PartialEq, Eq, Debug)]
+#[derive(Clone, Copy, PartialEq, Eq)]
 pub struct Alignment {
     exponent: u8,
     ghost small: { exponent ≤ greatest-exponent },
@@ -72,13 +72,13 @@ impl Alignment {
     pub fn is_aligned_to(self, other: Alignment) -> bool
         ensures { λ r. ⌜ r ≡ eqb ((2 ^ (self .exponent)) % (2 ^ (other .exponent))) 0 ⌝ }
     {
-        self.exponent >= other.exponent
+        other.exponent <= self.exponent
     }
 
     // Whether an offset is a multiple of the alignment.
     pub fn is_offset_aligned(self, offset: usize) -> bool
         ensures { λ r. ⌜ r ≡ eqb (offset % (2 ^ (self .exponent))) 0 ⌝ }
     {
-        offset & (self.as_usize() - 1) == 0
+        offset % self.as_usize() == 0
     }
 }

@@ -9,8 +9,6 @@ ghost use Rattle.allocation.specs.Meaning.{Meaning, Lawful, Allocates, Frees, 
 ghost use Rattle.std.specs.declared.option.Option.the-variants.{Some, None};
 ghost use Rattle.std.specs.Results.{Cases};
 use crate::block::Block;
-use crate::block::BlockDebug;
-use crate::block::BlockPartialEq;
 use crate::fault::Fault;
 use crate::layout::Layout;
 use region::zero_within;
@@ -95,14 +93,18 @@ pub trait Allocator {
 }
 
 // A live block as a buffer holds it: its functions hand the allocator's fault on as it came.
-#[derive(Clone, Copy, PartialEq, Eq, Debug)]
+#[derive(Clone, Copy)]
 pub struct Allocation {
     pub block: Block,
 }
 
 impl Allocation {
     // Takes a block of exactly the layout.
-    pub fn allocate<B: Allocator>(allocator: &mut B, region: &[u8], layout: Layout) -> Result<Allocation, Fault>
+    pub fn allocate<B: Allocator>(
+        allocator: &mut B,
+        region: &[u8],
+        layout: Layout,
+    ) -> Result<Allocation, Fault>
         ensures outcome { λ r. ⌜ Cases r
             (λ a. (allocate-fault (B·Allocator .meaning (now (allocator .entry))) (length (now (region .entry))) (asked layout) ≡ None)
             × Allocates (B·Allocator .meaning (now (allocator .entry))) (asked layout) (a .block) (B·Allocator .meaning (now (allocator .exit))))
@@ -114,7 +116,11 @@ impl Allocation {
     }
 
     // The same, and sets just the block to zero.
-    pub fn allocate_zeroed<B: Allocator>(allocator: &mut B, region: &mut [u8], layout: Layout) -> Result<Allocation, Fault>
+    pub fn allocate_zeroed<B: Allocator>(
+        allocator: &mut B,
+        region: &mut [u8],
+        layout: Layout,
+    ) -> Result<Allocation, Fault>
         ensures outcome { λ r. ⌜ Cases r
             (λ a. (allocate-fault (B·Allocator .meaning (now (allocator .entry))) (length (now (region .entry))) (asked layout) ≡ None)
             × Allocates (B·Allocator .meaning (now (allocator .entry))) (asked layout) (a .block) (B·Allocator .meaning (now (allocator .exit)))
@@ -162,7 +168,12 @@ impl Allocation {
     }
 
     // Grows the block to exactly the layout; refused, it stays as it is.
-    pub fn grow<B: Allocator>(&mut self, allocator: &mut B, region: &mut [u8], layout: Layout) -> Result<(), Fault>
+    pub fn grow<B: Allocator>(
+        &mut self,
+        allocator: &mut B,
+        region: &mut [u8],
+        layout: Layout,
+    ) -> Result<(), Fault>
         ensures outcome { λ r. ⌜ Cases r
             (λ _. (grow-fault (B·Allocator .meaning (now (allocator .entry))) (length (now (region .entry))) (now (self .entry) .block) (asked layout) ≡ None)
             × Grows (B·Allocator .meaning (now (allocator .entry))) (now (self .entry) .block) (asked layout) (now (self .exit) .block) (B·Allocator .meaning (now (allocator .exit))) (now (region .entry)) (now (region .exit)))

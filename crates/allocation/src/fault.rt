@@ -101,8 +101,8 @@ impl Fault {
         ensures { λ r. ⌜ r ≡ refusal-of self ⌝ }
     {
         match self {
-            Fault::Alone(refusal) => refusal,
-            Fault::Asked(refusal, _, _) => refusal,
+            Fault::Alone(why) => why,
+            Fault::Asked(why, _, _) => why,
         }
     }
 }
@@ -126,11 +126,11 @@ pub impl fmt::Display for Refusal as RefusalDisplay {
 pub impl fmt::Display for Fault as FaultDisplay {
     fn fmt<W: fmt::Write>(&self, f: &mut fmt::Formatter<W>) -> fmt::Result {
         match self {
-            Fault::Alone(refusal) => write!(f, "{refusal}"),
-            Fault::Asked(refusal, Layer::Allocator, request) => {
+            Fault::Alone(why) => write!(f, "{why}"),
+            Fault::Asked(why, Layer::Allocator, request) => {
                 let size = request.size;
                 let align = request.align;
-                write!(f, "{refusal} (allocator, {size} bytes at alignment {align})")
+                write!(f, "{why} (allocator, {size} bytes at alignment {align})")
             }
         }
     }

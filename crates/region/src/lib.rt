@@ -10,9 +10,7 @@ ghost use Rattle.region.specs.Bytes.{part, overwrite, equal};
 pub fn zero(bytes: &mut [u8])
     ensures { λ _. ⌜ now (bytes .exit) ≡ replicate (length (now (bytes .entry))) 0 ⌝ }
 {
-    for byte in bytes.iter_mut() {
-        *byte = 0;
-    }
+    bytes.fill(0);
 }
 
 // Sets n bytes of the region, from a place on, to zero.

@@ -1,0 +1,15 @@
+pub mod Keyed
+pub mod Patterns
+pub mod Kinds
+pub mod Book
+pub mod Calls
+pub mod Checks
+pub mod Effects
+pub mod Answers
+pub mod Reads
+pub mod Pedigree
+pub mod Runs
+pub mod Invariant
+pub mod Laws
+pub mod Values
+pub mod Outcomes
