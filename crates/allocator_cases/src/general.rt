@@ -235,10 +235,12 @@ mod tests {
 
     #[test]
     fn places() -> Result<(), Fail> {
-        let mut region = [0u8; 4096];
-        case(65536, &mut region[0..2048], &FITS)?;
-        case(63488, &mut region, &ALIGNED)?;
-        case(1, &mut region[0..1024], &ODD)
+        let mut small = [0u8; 1024];
+        let mut middle = [0u8; 2048];
+        let mut large = [0u8; 4096];
+        case(65536, &mut middle, &FITS)?;
+        case(63488, &mut large, &ALIGNED)?;
+        case(1, &mut small, &ODD)
     }
 
     #[test]
