@@ -6,6 +6,7 @@ mod tests {
     use crate::replay::Call;
     use crate::replay::Step;
     use crate::replay::block;
+    use crate::replay::fill;
     use crate::replay::layout;
     use crate::replay::replay;
     use allocation::allocation::Allocator;
@@ -227,42 +228,28 @@ mod tests {
         },
     ];
 
-    #[test]
-    fn fits() -> Result<(), Fail> {
-        let mut region = [0u8; 2048];
-        let mut general = General::new(65536, 2048)?;
-        replay(&mut general, &mut region, &FITS)
+    fn case(base: usize, region: &mut [u8], steps: &[Step]) -> Result<(), Fail> {
+        let mut general = General::new(base, region.len())?;
+        replay(&mut general, region, steps)
     }
 
     #[test]
-    fn aligned() -> Result<(), Fail> {
-        let mut region = [0u8; 4096];
-        let mut general = General::new(63488, 4096)?;
-        replay(&mut general, &mut region, &ALIGNED)
+    fn places() -> Result<(), Fail> {
+        let mut small = [0u8; 1024];
+        let mut middle = [0u8; 2048];
+        let mut large = [0u8; 4096];
+        case(65536, &mut middle, &FITS)?;
+        case(63488, &mut large, &ALIGNED)?;
+        case(1, &mut small, &ODD)
     }
 
     #[test]
-    fn odd() -> Result<(), Fail> {
-        let mut region = [0u8; 1024];
-        let mut general = General::new(1, 1024)?;
-        replay(&mut general, &mut region, &ODD)
-    }
-
-    #[test]
-    fn wrong_region() -> Result<(), Fail> {
-        let mut region = [0u8; 1023];
-        let mut general = General::new(1, 1024)?;
-        replay(&mut general, &mut region, &WRONG)
-    }
-
-    #[test]
-    fn full_table() -> Result<(), Fail> {
+    fn tables() -> Result<(), Fail> {
         let mut region = [0u8; 1024];
         let mut general = General::new(65536, 1024)?;
-        for i in 0..64usize {
-            check_eq(general.allocate(&region, layout(8, 0)?)?, 8 * i)?;
-        }
-        replay(&mut general, &mut region, &FULL)
+        fill(&mut general, &region)?;
+        replay(&mut general, &mut region, &FULL)?;
+        replay(&mut general, &mut region[0..1023], &WRONG)
     }
 
     // Growth brings the bytes along and writes no other; a block is zeroed and nothing beside it.

@@ -4,6 +4,7 @@ use allocation::alignment::Alignment;
 use allocation::allocation::Allocator;
 use allocation::block::Block;
 use allocation::fault::Fault;
+use allocation::fault::FaultDebug;
 use allocation::fault::Refusal;
 use allocation::fault::RefusalDebug;
 use allocation::layout::Layout;
@@ -79,6 +80,14 @@ pub fn replay<B: Allocator>(
     for (i, step) in steps.iter().enumerate() {
         let got = ask(allocator, region, step.call)?;
         check_eq(got, step.answer).note(format_args!("step {i}"))?;
+    }
+    Ok(())
+}
+
+// Takes all 64 lines of a table, by blocks of 8 bytes that stand one behind another.
+pub fn fill<B: Allocator>(allocator: &mut B, region: &[u8]) -> Result<(), Fail> {
+    for i in 0..64usize {
+        check_eq(allocator.allocate(region, layout(8, 0)?)?, 8 * i)?;
     }
     Ok(())
 }

@@ -5,10 +5,8 @@ mod tests {
     use crate::replay::Answer;
     use crate::replay::Call;
     use crate::replay::Step;
-    use crate::replay::layout;
+    use crate::replay::fill;
     use crate::replay::replay;
-    use allocation::allocation::Allocator;
-    use allocation::fault::FaultDebug;
     use allocation::fault::RefusalDebug;
     use allocators::shelf::Shelf;
     use allocators::shelf::ops::ShelfAllocator;
@@ -149,9 +147,7 @@ mod tests {
     fn full_table() -> Result<(), Fail> {
         let mut region = [0u8; 1024];
         let mut shelf = Shelf::new(65536, 1024)?;
-        for i in 0..64usize {
-            check_eq(shelf.allocate(&region, layout(8, 0)?)?, 8 * i)?;
-        }
+        fill(&mut shelf, &region)?;
         replay(&mut shelf, &mut region, &FULL)
     }
 }

@@ -324,6 +324,7 @@ impl Arena {
             × (meant placing (now (self .exit)) ≡ meant placing (now (self .entry)))
             × (now (region .exit) ≡ now (region .entry))) ⌝ }
         ensures regrown { λ r. ⌜ made r (λ p. Replaced placing (now (self .entry)) block (asked layout) p) ⌝ }
+        ensures carried { λ r. ⌜ made r (λ p. now (region .exit) ≡ overwrite p (part (block .place) (block .size) (now (region .entry))) (now (region .entry))) ⌝ }
     {
         let place = self.grown_place(placing, region, block, layout)?;
         carry(region, block, place);

@@ -9,7 +9,7 @@ ghost use Rattle.allocation.specs.Faults.{block-at, allocate-fault, grow-fault}
 ghost use Rattle.allocation.specs.Meaning.{Allocates, Grows};
 ghost use Rattle.allocators.specs.Models.{general, General-places};
 ghost use Rattle.allocators.specs.Placings.{Limits, general-meaning};
-ghost use Rattle.region.specs.Bytes.{overwrite};
+ghost use Rattle.region.specs.Bytes.{part, overwrite};
 ghost use Rattle.std.specs.declared.option.Option.the-variants.{Some, None};
 ghost use Rattle.std.specs.Results.{Cases};
 ghost use Rattle.std.specs.Vec.{made};
@@ -105,6 +105,7 @@ pub impl Allocator for General as GeneralAllocator {
             × (general (now (self .exit)) ≡ general (now (self .entry)))
             × (now (region .exit) ≡ now (region .entry))) ⌝ }
         ensures lowest { λ r. ⌜ made r (λ p. General-places (now (self .entry)) (asked layout) p) ⌝ }
+        ensures carried { λ r. ⌜ made r (λ p. now (region .exit) ≡ overwrite p (part (block .place) (block .size) (now (region .entry))) (now (region .entry))) ⌝ }
     {
         self.arena.grow(Placing::Lowest, region, block, layout)
     }

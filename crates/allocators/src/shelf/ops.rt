@@ -9,7 +9,7 @@ ghost use Rattle.allocation.specs.Faults.{block-at, allocate-fault, grow-fault}
 ghost use Rattle.allocation.specs.Meaning.{Allocates, Grows};
 ghost use Rattle.allocators.specs.Models.{shelf, Shelf-places, Shelf-regrows};
 ghost use Rattle.allocators.specs.Placings.{Limits, shelf-meaning};
-ghost use Rattle.region.specs.Bytes.{overwrite};
+ghost use Rattle.region.specs.Bytes.{part, overwrite};
 ghost use Rattle.std.specs.declared.option.Option.the-variants.{Some, None};
 ghost use Rattle.std.specs.Results.{Cases};
 ghost use Rattle.std.specs.Vec.{made};
@@ -106,6 +106,7 @@ pub impl Allocator for Shelf as ShelfAllocator {
             × (shelf (now (self .exit)) ≡ shelf (now (self .entry)))
             × (now (region .exit) ≡ now (region .entry))) ⌝ }
         ensures regrown { λ r. ⌜ made r (λ p. Shelf-regrows (now (self .entry)) block (asked layout) p) ⌝ }
+        ensures carried { λ r. ⌜ made r (λ p. now (region .exit) ≡ overwrite p (part (block .place) (block .size) (now (region .entry))) (now (region .entry))) ⌝ }
     {
         self.arena
             .grow(Placing::AboveHighest, region, block, layout)

@@ -57,4 +57,5 @@ returns c =
         grows-by (c .args .placing) (a .base) (a .extent) (a .long) (held (a .table)) (a .kept) (held (c .push .last .self)) (c .args .block) r p (c .args .region .now) (c .carry .last .region) (done .2) free (done .1) e (c .carry .ensures),
       );
       regrown = done .3;
+      carried = c .carry .ensures;
     }
