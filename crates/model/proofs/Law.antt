@@ -27,13 +27,14 @@ use Rattle.model.specs.Book.{State, block-of, known, line, line-limit, look-up
 use Rattle.model.specs.Calls.{granted, read, try-into-mut, with-capacity-in}
 use Rattle.model.specs.Checks.{checks, full, refusal, request-for}
 use Rattle.model.specs.Keyed.{find}
-use Rattle.model.specs.Laws.{Blocks-law, Frame-law, Fresh-law, Grant-law, Has-other, Kept, Lines-law, Parts-law, Place-law, Room-law, Rows-law, Sharing-law, Shows, Store-law, asked-bytes}
+use Rattle.model.specs.Laws.{Alone-law, Blocks-law, Frame-law, Fresh-law, Grant-law, Has-other, Kept, Lines-law, Parts-law, Place-law, Room-law, Rows-law, Sharing-law, Shows, Store-law, asked-bytes}
 use Rattle.model.specs.Patterns.{Even, joined}
 use Rattle.model.specs.Pedigree.{Row, Table, row}
 use Rattle.model.specs.Reads.{fails, place-on, same, says}
 use Rattle.model.specs.Runs.{Store, next, start}
 use Rattle.model.proofs.Alignments.{valid-for}
 use Rattle.model.proofs.Checks.{Held, Passed, Stopped, held, passed, past, stopped, unrefused}
+use Rattle.model.proofs.Faults.{faults-law}
 use Rattle.model.proofs.Fitting.{shown-is, shown-none, sits-off, sits-on}
 use Rattle.model.proofs.Frame.{framed}
 use Rattle.model.proofs.Fresh.{clear-of}
@@ -120,10 +121,13 @@ lines-law w r s i = (holds .1 .1 .few, λ n l e. kept n l e)
           low = λ B b. sits-on base l B b (f .sits) .0;
           high = λ B b. sits-on base l B b (f .sits) .1;
           room = λ B b. sits-on base l B b (f .sits) .2;
-          bare = λ b. sits-off base l b (f .sits) .0;
+          bare = λ b. sits-off base l b (f .sits);
           ample = f .within;
           shared = k .shared;
         }
+
+alone-law : Alone-law
+alone-law w r s i m n k l b d e f x y = inv-at w r s i .alone m n k l b d e f x y
 
 blocks-law : Blocks-law
 blocks-law w r s i B =
@@ -245,4 +249,4 @@ grant-law w r s i none-live n k c sound long left room small =
     yields false = refl
 
 pub store-law : Store-law
-store-law = (rows-law, lines-law, parts-law, place-law, frame-law, blocks-law, fresh-law, sharing-law, room-law, grant-law)
+store-law = (rows-law, lines-law, alone-law, parts-law, place-law, frame-law, blocks-law, fresh-law, sharing-law, faults-law, room-law, grant-law)
