@@ -155,7 +155,7 @@ module _ (st : State) (tb : Table) (inv : Inv st tb) where
   long-got m w vs (Some B) ys p = p .0 .long
 
   -- blocks got lie in the region
-  got-inside : (c size : ℕ) (a : Meaning) (got : Option Block) → Obtained (st .meaning) a c size got → (B : Block) → got ≡ Some B → B .place + B .size ≤ length (st .bytes)
+  pub got-inside : (c size : ℕ) (a : Meaning) (got : Option Block) → Obtained (st .meaning) a c size got → (B : Block) → got ≡ Some B → B .place + B .size ≤ length (st .bytes)
   got-inside c size a got o B e = omega (arith, o .lawful .within B (o .blocks B .1 (inl e)), inv .long, o .fixed .extent)
 
   pub make : (k : Kind) (mutable : Bool) (c claim m : ℕ) (vs : List (List ℕ)) (writes : Option Block → List ℕ) (g : Grant) (st′ : State) → 1 ≤ k .width → 1 ≤ claim → 1 ≤ m → Even (k .width) vs → length vs ≤ c

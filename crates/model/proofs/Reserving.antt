@@ -23,7 +23,7 @@ use Rattle.model.specs.declared.line.Backing.the-variants.{Owned}
 use Rattle.model.specs.declared.line.Line.{Line}
 use Rattle.model.specs.Book.{State, block-of, look-up, serial-of, shown}
 use Rattle.model.specs.Checks.{enough, smaller, takes-new, wanted-bytes, wanted-request}
-use Rattle.model.specs.Effects.{Gives-back, Grown, Reserves, Takes-new, appended, put-line, relocated, with-bytes, with-len, with-meaning}
+use Rattle.model.specs.Effects.{Gives-back, Grown, Relocates, Reserves, Takes-new, appended, put-line, relocated, with-bytes, with-len, with-meaning}
 use Rattle.model.specs.Keyed.{update}
 use Rattle.model.specs.Patterns.{Even, joined}
 use Rattle.model.specs.Pedigree.{Row, Table, key-of, last-or, row, spelling, upon}
@@ -36,6 +36,10 @@ use Rattle.model.proofs.Shapes.{never, undisturbed-outside}
 
 pub same-fixed : (a b c : Meaning) → Fixed a b → Fixed b c → Fixed a c
 same-fixed a b c p q = record { base = q .base ∙ p .base; extent = q .extent ∙ p .extent; room = q .room ∙ p .room; copies = q .copies ∙ p .copies }
+
+-- the growth rule holds the elements and those to come
+pub wanted-holds : (l : Line) (more : ℕ) → (l .len + more) * l .kind .width ≤ wanted-bytes l more
+wanted-holds l more = omega arith
 
 -- what both ways of getting a block for a line come to
 pub record Relocation (st : State) (l : Line) (size spot : ℕ) (B : Block) (a : Meaning) (ys : List ℕ) : Type 0 where
@@ -140,6 +144,20 @@ module _ (st : State) (tb : Table) (inv : Inv st tb) (s : ℕ) (l : Line) (e : l
   smaller-no n None D q k = absurd (never refl q)
   smaller-no n (Some C) D q k = subst (λ z. z .size ≤ n) (let u : C ≡ D = cc in u) (ltb-false n (C .size) k)
 
+  -- whichever way the block is got
+  pub relocation-of : (more : ℕ) (bs : List Block) (st′ : State) (h : Relocates st l more bs st′) → Relocation st l (wanted-bytes l more + l .claim) (round-up (st .meaning .base + h .block .place) (l .claim) - st .meaning .base) (h .block) (h .meaning) (h .bytes)
+  relocation-of more bs st′ h =
+      let B = h .block in
+      let N = wanted-bytes l more in
+      let start = round-up (st .meaning .base + B .place) (l .claim) in
+      let low = round-up-low (st .meaning .base + B .place) (l .claim) in
+      let high = round-up-high (st .meaning .base + B .place) (l .claim) (inv .spelled s l e .2 .claims) in
+      let m : (l .len + more) * l .kind .width ≤ N = wanted-holds l more in
+      ⊎-elim (λ (c : takes-new (st .meaning) l more ≡ true). relocate-anew (wanted-request l more) (start - st .meaning .base) B (h .meaning) (h .bytes) (omega arith) (omega arith) (h .by-new c))
+      (λ (c : takes-new (st .meaning) l more ≡ false). let g = h .by-growth c in
+      relocate-grown (wanted-request l more) (start - st .meaning .base) B (h .meaning) (h .bytes) (omega arith) (omega arith) g (smaller-no (N + l .claim) (block-of (l .backing)) (g .from) (g .was) (or-parts (st .meaning .copies) (smaller (N + l .claim) (block-of (l .backing))) c .1)))
+      (cases-bool (takes-new (st .meaning) l more))
+
   pub reserved : (more : ℕ) (b : Bool) (bs : List Block) (between : State) → l .mutable ≡ true → l .serial ≡ s → enough l more ≡ b → Reserves b st l more bs between → Ready more bs between
   unfolding upon put-line with-meaning with-bytes
   reserved more true bs between mut q k (i, j) =
@@ -169,12 +187,8 @@ module _ (st : State) (tb : Table) (inv : Inv st tb) (s : ℕ) (l : Line) (e : l
       let r′ : f (t .0) ≡ upon (t .0) (Some B) = ap (λ z. upon (t .0) (last-or (t .0 .block) z)) (h .got) in
       let low = round-up-low (st .meaning .base + B .place) (l .claim) in
       let high = round-up-high (st .meaning .base + B .place) (l .claim) (t .2 .claims) in
-      let m : l .len * w + more * w ≤ N = omega arith in
-      let relocation : Relocation st l (N + l .claim) (start - st .meaning .base) B (h .meaning) (h .bytes) =
-      ⊎-elim (λ (c : takes-new (st .meaning) l more ≡ true). relocate-anew (wanted-request l more) (start - st .meaning .base) B (h .meaning) (h .bytes) (omega arith) (omega arith) (h .by-new c))
-      (λ (c : takes-new (st .meaning) l more ≡ false). let g = h .by-growth c in
-      relocate-grown (wanted-request l more) (start - st .meaning .base) B (h .meaning) (h .bytes) (omega arith) (omega arith) g (smaller-no (N + l .claim) (block-of (l .backing)) (g .from) (g .was) (or-parts (st .meaning .copies) (smaller (N + l .claim) (block-of (l .backing))) c .1)))
-      (cases-bool (takes-new (st .meaning) l more)) in
+      let m : (l .len + more) * w ≤ N = wanted-holds l more in
+      let relocation = relocation-of more bs between h in
       let div = div-mul N w in
       let fit-in = mul-div N w (l .len + more) (t .2 .wide) (omega arith) in
       record {

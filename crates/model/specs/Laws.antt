@@ -1,10 +1,10 @@
 -- What holds in every world that a run comes to.
 use mathlib.Core.Bool.{true, false}
 use mathlib.Core.List.{List, []}
-use mathlib.Core.Logic.{_↔_}
+use mathlib.Core.Logic.{_↔_, _⊎_}
 use mathlib.Core.Path.{_≡_}
 use Prim.Native.Nat.{ℕ, _+_, _*_, _%_, _≤_, _<_, max}
-use lib.ListN.{length}
+use lib.ListN.{length, getD}
 use Rattle.std.specs.declared.option.Option.the-variants.{Some, None}
 use Rattle.region.specs.Bytes.{equal, part}
 use Rattle.allocation.specs.declared.block.Block.{Block}
@@ -101,6 +101,18 @@ Frame-law =
     → (t : ℕ) (l : Line) → look-up t (s .state) ≡ Some l → All (λ h. h .serial ≡ t → ⊥) (brings c .handles)
     → (look-up t st′ ≡ Some l) × (shown (st′ .meaning .base) l (st′ .bytes) ≡ shown (s .state .meaning .base) l (s .state .bytes))
 
+-- a place outside of a block
+abbrev pub Off : ℕ → Block → Type 0
+Off i b = (i < b .place) ⊎ (end-of b ≤ i)
+
+-- a granted call writes nowhere but in blocks that it got or grew and in the blocks under its handles
+abbrev pub Writes-law : Type 0
+Writes-law =
+    (w : World) → Reached w → (s : Store) → In s w
+    → (n : ℕ) (c : Call) (g : Grant) (st′ : State) → Sound c → Answers (s .state) n c (granted g) st′
+    → (i : ℕ) → ((b : Block) → Among b (g .blocks) → Off i b) → All (λ h. (b : Block) → block-of (line (s .state) h .backing) ≡ Some b → Off i b) (brings c .handles)
+    → getD (st′ .bytes) i 0 ≡ getD (s .state .bytes) i 0
+
 -- the live blocks are those under rows
 abbrev pub Blocks-law : Type 0
 Blocks-law =
@@ -153,7 +165,7 @@ Grant-law =
 
 -- the whole law
 abbrev pub Store-law : Type 0
-Store-law = Rows-law × Lines-law × Alone-law × Parts-law × Place-law × Frame-law × Blocks-law × Fresh-law × Sharing-law × Faults-law × Room-law × Grant-law
+Store-law = Rows-law × Lines-law × Alone-law × Parts-law × Place-law × Frame-law × Writes-law × Blocks-law × Fresh-law × Sharing-law × Faults-law × Room-law × Grant-law
 
 -- The invariant of a state alone: it holds of a new store and in every world that a run comes to, every call keeps it, and nothing is lost where only its truth is kept.
 abbrev pub Invariant-law : Type 0
