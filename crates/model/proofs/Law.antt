@@ -48,7 +48,7 @@ use Rattle.model.proofs.Shapes.{never}
 use Rattle.model.proofs.Writes.{does-stays}
 
 -- a part lies in the region
-placed : (st : State) (tb : Table) → Inv st tb → (h : Handle) (l : Line) {r : Row} → l .kind ≡ h .kind → look-up (h .serial) st ≡ Some l → Fits (st .meaning .base) (st .bytes) l r → (o : Option Block) → block-of (l .backing) ≡ o
+pub placed : (st : State) (tb : Table) → Inv st tb → (h : Handle) (l : Line) {r : Row} → l .kind ≡ h .kind → look-up (h .serial) st ≡ Some l → Fits (st .meaning .base) (st .bytes) l r → (o : Option Block) → block-of (l .backing) ≡ o
     → (place-on (block-of (l .backing)) (st .meaning .base) l + l .len * h .kind .width ≤ length (st .bytes)) × (shown (st .meaning .base) l (st .bytes) ≡ part (place-on (block-of (l .backing)) (st .meaning .base) l) (l .len * h .kind .width) (st .bytes))
 placed st tb inv h l k e f None b =
     let z = sits-off (st .meaning .base) l b (f .sits) in

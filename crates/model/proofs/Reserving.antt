@@ -42,12 +42,12 @@ pub wanted-holds : (l : Line) (more : ℕ) → (l .len + more) * l .kind .width 
 wanted-holds l more = omega arith
 
 -- what both ways of getting a block for a line come to
-pub record Relocation (st : State) (l : Line) (size spot : ℕ) (B : Block) (a : Meaning) (ys : List ℕ) : Type 0 where
+pub record Relocation (st : State) (l : Line) (size target : ℕ) (B : Block) (a : Meaning) (ys : List ℕ) : Type 0 where
   pub lawful : Lawful a
   pub fixed : Fixed (st .meaning) a
   pub sized : B .size ≡ size
   pub outside : Outside (B .place) (B .size) (st .bytes) ys
-  pub moved : part spot (l .len * l .kind .width) ys ≡ shown (st .meaning .base) l (st .bytes)
+  pub moved : part target (l .len * l .kind .width) ys ≡ shown (st .meaning .base) l (st .bytes)
   pub blocks : (C : Block) → Among C (a .live) ↔ ((C ≡ B) ⊎ (Among C (st .meaning .live) × (block-of (l .backing) ≡ Some C → ⊥)))
   pub fresh : Among B (st .meaning .live) → block-of (l .backing) ≡ Some B
 
@@ -59,8 +59,8 @@ module _ (st : State) (tb : Table) (inv : Inv st tb) (s : ℕ) (l : Line) (e : l
   long-shown = let t = inv .spelled s l e in ap length (sym (t .2 .spells)) ∙ length-joined (l .kind .width) (t .0 .list) (t .2 .even) ∙ ap (λ z. z * l .kind .width) (t .2 .len)
 
   -- allocate, copy, give back
-  relocate-anew : (L : Request) (spot : ℕ) (B : Block) (a : Meaning) (ys : List ℕ) → B .place ≤ spot → spot + l .len * l .kind .width ≤ B .place + L .size → Takes-new (st .meaning) (st .bytes) l L spot B a ys → Relocation st l (L .size) spot B a ys
-  relocate-anew L spot B a ys low high n = go (block-of (l .backing)) refl (n .gives)
+  relocate-anew : (L : Request) (target : ℕ) (B : Block) (a : Meaning) (ys : List ℕ) → B .place ≤ target → target + l .len * l .kind .width ≤ B .place + L .size → Takes-new (st .meaning) (st .bytes) l L target B a ys → Relocation st l (L .size) target B a ys
+  relocate-anew L target B a ys low high n = go (block-of (l .backing)) refl (n .gives)
     where
       x : Allocates (st .meaning) L B (n .between)
       x = n .gets
@@ -68,16 +68,16 @@ module _ (st : State) (tb : Table) (inv : Inv st tb) (s : ℕ) (l : Line) (e : l
       fits : B .place + B .size ≤ length (st .bytes)
       fits = omega (arith, x .lawful .within B (x .live B .1 (inl refl)), inv .long, x .fixed .extent)
 
-      written : ys ≡ overwrite spot (shown (st .meaning .base) l (st .bytes)) (st .bytes)
+      written : ys ≡ overwrite target (shown (st .meaning .base) l (st .bytes)) (st .bytes)
       written = n .writes
 
       out : Outside (B .place) (B .size) (st .bytes) ys
-      out = subst (Outside (B .place) (B .size) (st .bytes)) (sym written) (outside-written (B .place) (B .size) spot (shown (st .meaning .base) l (st .bytes)) (st .bytes) low (omega (arith, long-shown, x .size)) fits)
+      out = subst (Outside (B .place) (B .size) (st .bytes)) (sym written) (outside-written (B .place) (B .size) target (shown (st .meaning .base) l (st .bytes)) (st .bytes) low (omega (arith, long-shown, x .size)) fits)
 
-      moves : part spot (l .len * l .kind .width) ys ≡ shown (st .meaning .base) l (st .bytes)
-      moves = ap (part spot (l .len * l .kind .width)) written ∙ part-written spot (l .len * l .kind .width) (shown (st .meaning .base) l (st .bytes)) (st .bytes) long-shown (omega (arith, fits, x .size))
+      moves : part target (l .len * l .kind .width) ys ≡ shown (st .meaning .base) l (st .bytes)
+      moves = ap (part target (l .len * l .kind .width)) written ∙ part-written target (l .len * l .kind .width) (shown (st .meaning .base) l (st .bytes)) (st .bytes) long-shown (omega (arith, fits, x .size))
 
-      go : (o : Option Block) → block-of (l .backing) ≡ o → Gives-back (n .between) o a → Relocation st l (L .size) spot B a ys
+      go : (o : Option Block) → block-of (l .backing) ≡ o → Gives-back (n .between) o a → Relocation st l (L .size) target B a ys
       go None q g =
           let f : Fixed (st .meaning) a = subst (Fixed (st .meaning)) (sym g) (x .fixed) in
           record {
@@ -103,8 +103,8 @@ module _ (st : State) (tb : Table) (inv : Inv st tb) (s : ℕ) (l : Line) (e : l
       }
 
   -- grow and move
-  relocate-grown : (L : Request) (spot : ℕ) (B : Block) (a : Meaning) (ys : List ℕ) → B .place ≤ spot → spot + l .len * l .kind .width ≤ B .place + L .size → (n : Grown (st .meaning) (st .bytes) l L spot B a ys) → n .from .size ≤ L .size → Relocation st l (L .size) spot B a ys
-  relocate-grown L spot B a ys low high n larger =
+  relocate-grown : (L : Request) (target : ℕ) (B : Block) (a : Meaning) (ys : List ℕ) → B .place ≤ target → target + l .len * l .kind .width ≤ B .place + L .size → (n : Grown (st .meaning) (st .bytes) l L target B a ys) → n .from .size ≤ L .size → Relocation st l (L .size) target B a ys
+  relocate-grown L target B a ys low high n larger =
       let D = n .from in
       let x = n .grows in
       let w = l .len * l .kind .width in
@@ -113,16 +113,16 @@ module _ (st : State) (tb : Table) (inv : Inv st tb) (s : ℕ) (l : Line) (e : l
       let d = inside st tb inv s l e D (n .was) in
       let fits : B .place + B .size ≤ length (n .between) = omega (arith, x .lawful .within B (x .live B .1 (inl refl)), inv .long, x .fixed .extent, x .outside .long) in
       let long : length (part (B .place + off) w (n .between)) ≡ w = length-part (B .place + off) w (n .between) (omega (arith, z .0, z .1, x .size)) in
-      let spot-was : D .place + off ≡ l .start - st .meaning .base = omega (arith, z .0) in
+      let old-place : D .place + off ≡ l .start - st .meaning .base = omega (arith, z .0) in
       record {
         lawful = x .lawful;
         fixed = x .fixed;
         sized = x .size;
         outside = outside-more (B .place) (B .size) (st .bytes) (n .between) ys (x .outside)
-            (subst (Outside (B .place) (B .size) (n .between)) (sym (n .moves)) (outside-written (B .place) (B .size) spot (part (B .place + off) w (n .between)) (n .between) low (omega (arith, x .size)) fits));
-        moved = ap (part spot w) (n .moves) ∙ part-written spot w (part (B .place + off) w (n .between)) (n .between) long (omega (arith, x .size))
+            (subst (Outside (B .place) (B .size) (n .between)) (sym (n .moves)) (outside-written (B .place) (B .size) target (part (B .place + off) w (n .between)) (n .between) low (omega (arith, x .size)) fits));
+        moved = ap (part target w) (n .moves) ∙ part-written target w (part (B .place + off) w (n .between)) (n .between) long (omega (arith, x .size))
             ∙ sym (part-part (B .place) (D .size) off w (n .between) (omega (arith, z .0, z .1)) (omega (arith, x .size)))
-            ∙ ap (part off w) (x .kept) ∙ part-part (D .place) (D .size) off w (st .bytes) (omega (arith, z .0, z .1)) d ∙ ap (λ p. part p w (st .bytes)) spot-was
+            ∙ ap (part off w) (x .kept) ∙ part-part (D .place) (D .size) off w (st .bytes) (omega (arith, z .0, z .1)) d ∙ ap (λ p. part p w (st .bytes)) old-place
             ∙ sym (shown-is (st .meaning .base) l (st .bytes) D (n .was));
         blocks = λ C. (λ y. ⊎-elim inl (λ v. inr (v .0, λ q. v .1 (let u : C ≡ D = cc (n .was, q) in u))) (x .live C .0 y), λ y. x .live C .1 (⊎-elim inl (λ v. inr (v .0, λ q. v .1 (n .was ∙ ap {B = Option Block} Some (sym q)))) y));
         fresh = λ y. n .was ∙ ap {B = Option Block} Some (sym (x .new y));
