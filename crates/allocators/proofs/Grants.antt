@@ -5,7 +5,6 @@ use mathlib.Core.Logic.{_⊎_, inl, inr}
 use mathlib.Core.Path.{_≡_, refl, sym, subst}
 use Prim.Native.Nat.{ℕ, zero, suc, max, _+_, _-_, _%_, _≤_, _<_}
 use native.Mathlib.Omega.{arith}
-use native.Mathlib.Nat.{mod-lt, add-zero}
 use lib.Dec.{leb, ltb, lit<}
 use lib.ListN.{length}
 use Rattle.std.specs.declared.option.Option.{Option}
@@ -14,11 +13,11 @@ use Rattle.std.specs.Options.{Cases}
 use Rattle.std.proofs.shelf.Tests.{and-from, and-left, and-right, and-parts, or-left, or-right, or-from, or-cases, ltb-true, lt-ltb, leb-true, le-leb, lt-leb, cases-eq, cases-lt, both-ways}
 use Rattle.allocation.specs.declared.block.Block.{Block}
 use Rattle.allocation.specs.declared.block.Request.{Request}
-use Rattle.allocation.specs.Faults.{block-at}
+use Rattle.allocation.specs.Alignments.{round-up}
 use Rattle.allocation.specs.Meaning.{Among, Apart, end-of}
+use Rattle.allocation.proofs.Rounding.{round-up-low, round-up-high, round-up-multiple}
 use Rattle.allocators.specs.Fitting.{fits, sound, Fits, Lowest, some-below, grants-from, highest-end}
 use Rattle.allocators.proofs.Blocks.{Lies, sound-among, fits-true, fits-from}
-use Rattle.allocators.proofs.Multiples.{next-multiple}
 
 some-below-at : (t : ℕ → Bool) (n p : ℕ) → p < n → t p ≡ true → some-below t n ≡ true
 some-below-at t zero p l h = absurd (omega arith)
@@ -76,11 +75,10 @@ module _ (base n : ℕ) (live : List Block) (start : ℕ) (r : Request) where
 -- a place below the alignment is a multiple of it
 first-aligned : (base a : ℕ) → 0 < a → (p : ℕ) × (p < a) × ((base + p) % a ≡ 0)
 first-aligned base a pos =
-    let below = mod-lt base pos in
-    elim (cases-eq (base % a) 0) [
-      | inl e ↦ (0, pos, rw add-zero e)
-      | inr e ↦ (a - base % a, omega arith, next-multiple base a pos)
-    ]
+    let low = round-up-low base a in
+    let high = round-up-high base a (omega arith) in
+    let there : base + (round-up base a - base) ≡ round-up base a = omega arith in
+    (round-up base a - base, omega arith, rw there (round-up-multiple base a (omega arith)))
 
 pub empty-grants : (base n : ℕ) (r : Request) → 0 < r .align → 1 ≤ r .size → r .size + r .align - 1 ≤ n → grants-from base n [] 0 r ≡ true
 unfolding Among

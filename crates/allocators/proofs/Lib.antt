@@ -3,4 +3,4 @@ mod Edits
 pub mod Grants
 mod InWords
 pub mod Laws
-mod Multiples
+pub mod Own

@@ -19,12 +19,7 @@ pub(crate) fn align_up(base: usize, from: usize, align: usize) -> usize
     ensures aligned { λ r. ⌜ (base + r) % align ≡ 0 ⌝ }
     ensures first { λ r. ⌜ ((q : ℕ) → from ≤ q → (base + q) % align ≡ 0 → r ≤ q) ⌝ }
 {
-    let over = (base + from) % align;
-    if over == 0 {
-        from
-    } else {
-        from + (align - over)
-    }
+    from + (align - (base + from) % align) % align
 }
 
 // Whether two blocks share no byte.
