@@ -151,16 +151,16 @@ unfolding spelling
 fits-append base xs l r vs B f e long h k =
     let w = l .kind .width in
     let n = length vs in
-    let spot = l .start - base in
-    let ys = overwrite (spot + l .len * w) (joined vs) xs in
+    let target = l .start - base in
+    let ys = overwrite (target + l .len * w) (joined vs) xs in
     let s = sits-on base l B e (f .sits) in
     let g : length (joined vs) ≡ n * w = length-joined w vs k in
     let m : l .len * w + n * w ≤ l .capacity * w = omega (arith, mul-le-mul-right w h) in
     let m′ : (l .len + n) * w ≡ l .len * w + n * w = omega arith in
-    let a = part-split spot (l .len * w) (n * w) ys in
-    let o = outside-written (spot + l .len * w) (n * w) (spot + l .len * w) (joined vs) xs (omega arith) (omega arith) (omega (arith, s .0, s .2)) in
-    let b = part-outside (spot + l .len * w) (n * w) spot (l .len * w) xs ys o (inl (omega arith)) (omega (arith, s .0, s .2)) in
-    let c = part-written (spot + l .len * w) (n * w) (joined vs) xs g (omega (arith, s .0, s .2)) in
+    let a = part-split target (l .len * w) (n * w) ys in
+    let o = outside-written (target + l .len * w) (n * w) (target + l .len * w) (joined vs) xs (omega arith) (omega arith) (omega (arith, s .0, s .2)) in
+    let b = part-outside (target + l .len * w) (n * w) target (l .len * w) xs ys o (inl (omega arith)) (omega (arith, s .0, s .2)) in
+    let c = part-written (target + l .len * w) (n * w) (joined vs) xs g (omega (arith, s .0, s .2)) in
     record {
       kind = f .kind;
       block = f .block;
@@ -171,7 +171,7 @@ fits-append base xs l r vs B f e long h k =
       within = λ q. h;
       sits = subst (Sits base (with-len l (l .len + n))) (sym e) (s .0, omega (arith, s .2), s .2);
       spells =
-          joined-append (r .list) vs ∙ (λ i. (f .spells ∙ shown-is base l xs B e ∙ sym b) i ++ sym c i) ∙ sym a ∙ ap (λ z. part spot z ys) (sym m′)
+          joined-append (r .list) vs ∙ (λ i. (f .spells ∙ shown-is base l xs B e ∙ sym b) i ++ sym c i) ∙ sym a ∙ ap (λ z. part target z ys) (sym m′)
           ∙ sym (shown-is base (with-len l (l .len + n)) ys B e);
     }
 

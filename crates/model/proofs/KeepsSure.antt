@@ -1,7 +1,7 @@
 -- Every call keeps the invariant of a state alone: its table is spelled from the region's own bytes.
 use mathlib.Core.List.{[], map, List}
 use mathlib.Core.Path.{_≡_, refl, sym, ap, subst, _∙_}
-use Prim.Native.Nat.{ℕ, _-_, _*_}
+use Prim.Native.Nat.{_+_, _≤_, ℕ, _-_, _*_}
 use native.Mathlib.Nat.{zero-mul}
 use native.Mathlib.Omega.{arith}
 use lib.Dec.{eqb}
@@ -9,24 +9,28 @@ use lib.ListN.{length}
 use Rattle.std.specs.declared.option.Option.the-variants.{Some, None}
 use Rattle.std.specs.declared.option.Option.{Option}
 use Rattle.std.proofs.shelf.Tests.{eqb-true, not-false}
+use Rattle.region.specs.Bytes.{part}
 use Rattle.region.proofs.Writes.{length-part}
 use Rattle.allocation.specs.declared.block.Block.{Block}
 use Rattle.allocation.specs.Meaning.{Among, Lawful}
+use Rattle.model.specs.declared.line.Handle.{Handle}
 use Rattle.model.specs.declared.line.Line.{Line}
 use Rattle.model.specs.Answers.{Answers}
-use Rattle.model.specs.Book.{State, block-of, look-up, serial-of, shown}
-use Rattle.model.specs.Calls.{Answer, Call, granted, refused}
-use Rattle.model.specs.Checks.{checks}
+use Rattle.model.specs.Book.{State, block-of, line, look-up, serial-of, shown}
+use Rattle.model.specs.Calls.{Answer, Call, granted, read, refused}
+use Rattle.model.specs.Checks.{checks, refusal}
 use Rattle.model.specs.Invariant.{Plain, Sure, Sure-of}
 use Rattle.model.specs.Keyed.{Rising, find}
 use Rattle.model.specs.Laws.{Invariant-law}
 use Rattle.model.specs.Patterns.{chunks}
 use Rattle.model.specs.Pedigree.{Row, Table, feed, key-of, row}
+use Rattle.model.specs.Reads.{len-of, slice-bytes, slice-place}
 use Rattle.model.specs.Runs.{In, Reached, Sound, Store, World}
-use Rattle.model.proofs.Checks.{passed}
+use Rattle.model.proofs.Checks.{held, passed}
 use Rattle.model.proofs.Fitting.{shown-is, shown-none, sits-off, sits-on}
 use Rattle.model.proofs.Invariant.{Fits, Inv}
 use Rattle.model.proofs.Keyed.{find-map, find-nil, mapped}
+use Rattle.model.proofs.Law.{placed}
 use Rattle.model.proofs.Lines.{Lines-keep}
 use Rattle.model.proofs.Patterns.{even-chunks, joined-chunks, length-chunks}
 use Rattle.model.proofs.Runs.{answered, holds-in, lines-answered, reached-holds}
@@ -122,6 +126,16 @@ well-on st extent c a st′ (tb, inv, each) s q = (feed tb c a, answered st tb i
 
 pub sure-well : (st : State) → Lawful (st .meaning) → length (st .bytes) ≡ st .meaning .extent → Sure-of st → Well st
 sure-well st law long k = (rows-of (st .meaning .base) (st .bytes) (st .lines), sure-inv st law long k, (k .each, k .counted))
+
+-- the part of a live handle lies in the region
+pub sure-place : (st : State) → Lawful (st .meaning) → Sure-of st → (h : Handle) → refusal (checks st (length (st .bytes)) (read h)) ≡ None
+    → (slice-place st h + len-of st h * h .kind .width ≤ length (st .bytes)) × (slice-bytes st h ≡ part (slice-place st h) (len-of st h * h .kind .width) (st .bytes))
+sure-place st law k h ok =
+    let ps = passed (checks st (length (st .bytes)) (read h)) ok in
+    let long = eqb-true (length (st .bytes)) (st .meaning .extent) (not-false (eqb (length (st .bytes)) (st .meaning .extent)) (ps .0)) in
+    let inv = sure-inv st law long k in
+    let at = held st h (ps .1 .1 .0) in
+    placed st _ inv h (line st h) (at .kind) (at .at) (inv .spelled (h .serial) (line st h) (at .at) .2) (block-of (line st h .backing)) refl
 
 -- a new store
 pub sure-new : (p : Plain) → p .live ≡ [] → Sure 1 [] p

@@ -27,13 +27,14 @@ use Rattle.model.specs.Book.{State, block-of, known, line, line-limit, look-up
 use Rattle.model.specs.Calls.{granted, read, try-into-mut, with-capacity-in}
 use Rattle.model.specs.Checks.{checks, full, refusal, request-for}
 use Rattle.model.specs.Keyed.{find}
-use Rattle.model.specs.Laws.{Blocks-law, Frame-law, Fresh-law, Grant-law, Has-other, Kept, Lines-law, Parts-law, Place-law, Room-law, Rows-law, Sharing-law, Shows, Store-law, asked-bytes}
+use Rattle.model.specs.Laws.{Alone-law, Blocks-law, Frame-law, Fresh-law, Grant-law, Has-other, Kept, Lines-law, Parts-law, Place-law, Room-law, Rows-law, Sharing-law, Shows, Store-law, Writes-law, asked-bytes}
 use Rattle.model.specs.Patterns.{Even, joined}
 use Rattle.model.specs.Pedigree.{Row, Table, row}
 use Rattle.model.specs.Reads.{fails, place-on, same, says}
 use Rattle.model.specs.Runs.{Store, next, start}
 use Rattle.model.proofs.Alignments.{valid-for}
 use Rattle.model.proofs.Checks.{Held, Passed, Stopped, held, passed, past, stopped, unrefused}
+use Rattle.model.proofs.Faults.{faults-law}
 use Rattle.model.proofs.Fitting.{shown-is, shown-none, sits-off, sits-on}
 use Rattle.model.proofs.Frame.{framed}
 use Rattle.model.proofs.Fresh.{clear-of}
@@ -44,9 +45,10 @@ use Rattle.model.proofs.Lines.{kept-at}
 use Rattle.model.proofs.Patterns.{joined-one-to-one, length-joined}
 use Rattle.model.proofs.Runs.{Holds, Inv-of, holds-in, inv-at, reached-holds}
 use Rattle.model.proofs.Shapes.{never}
+use Rattle.model.proofs.Writes.{does-stays}
 
 -- a part lies in the region
-placed : (st : State) (tb : Table) → Inv st tb → (h : Handle) (l : Line) {r : Row} → l .kind ≡ h .kind → look-up (h .serial) st ≡ Some l → Fits (st .meaning .base) (st .bytes) l r → (o : Option Block) → block-of (l .backing) ≡ o
+pub placed : (st : State) (tb : Table) → Inv st tb → (h : Handle) (l : Line) {r : Row} → l .kind ≡ h .kind → look-up (h .serial) st ≡ Some l → Fits (st .meaning .base) (st .bytes) l r → (o : Option Block) → block-of (l .backing) ≡ o
     → (place-on (block-of (l .backing)) (st .meaning .base) l + l .len * h .kind .width ≤ length (st .bytes)) × (shown (st .meaning .base) l (st .bytes) ≡ part (place-on (block-of (l .backing)) (st .meaning .base) l) (l .len * h .kind .width) (st .bytes))
 placed st tb inv h l k e f None b =
     let z = sits-off (st .meaning .base) l b (f .sits) in
@@ -120,10 +122,13 @@ lines-law w r s i = (holds .1 .1 .few, λ n l e. kept n l e)
           low = λ B b. sits-on base l B b (f .sits) .0;
           high = λ B b. sits-on base l B b (f .sits) .1;
           room = λ B b. sits-on base l B b (f .sits) .2;
-          bare = λ b. sits-off base l b (f .sits) .0;
+          bare = λ b. sits-off base l b (f .sits);
           ample = f .within;
           shared = k .shared;
         }
+
+alone-law : Alone-law
+alone-law w r s i m n k l b d e f x y = inv-at w r s i .alone m n k l b d e f x y
 
 blocks-law : Blocks-law
 blocks-law w r s i B =
@@ -171,6 +176,9 @@ room-law w r s i none-live n k c f st′ sound why (e, q) = ⊎-elim (λ (a : st
 
 frame-law : Frame-law
 frame-law w r s i n c a st′ sound q t l e u = let f = holds-in w (reached-holds w r) s i in framed (s .state) (s .table) (f .0) (f .1) n c a st′ sound q t l e u
+
+writes-law : Writes-law
+writes-law w r s i n c g st′ sound (e, d) j off own = does-stays j (s .state) (s .table) (inv-at w r s i) n c g st′ sound (passed (checks (s .state) n c) e) d off own
 
 place-law : Place-law
 place-law w r s i n h ok =
@@ -245,4 +253,4 @@ grant-law w r s i none-live n k c sound long left room small =
     yields false = refl
 
 pub store-law : Store-law
-store-law = (rows-law, lines-law, parts-law, place-law, frame-law, blocks-law, fresh-law, sharing-law, room-law, grant-law)
+store-law = (rows-law, lines-law, alone-law, parts-law, place-law, frame-law, writes-law, blocks-law, fresh-law, sharing-law, faults-law, room-law, grant-law)

@@ -17,6 +17,8 @@ pub mod Calls
 pub mod Runs
 pub mod Fresh
 pub mod Frame
+pub mod Writes
+pub mod Faults
 pub mod Law
 pub mod Strip
 pub mod KeepsSure

@@ -74,16 +74,16 @@ module _ (base m w c : ℕ) (one : 1 ≤ m) (xs : List ℕ) where
   placed-zeros None sized inside bare = (ap (λ n. replicate n (replicate w 0)) (bare refl), refl)
   placed-zeros (Some B) sized inside bare =
       let z : length (replicate {A = ℕ} (B .size) 0) ≡ B .size = length-replicate (B .size) 0 in
-      let spot = round-up (base + B .place) m - base in
+      let target = round-up (base + B .place) m - base in
       let k = place-high B c (sized B refl) (omega arith) in
       let n : length (replicate {A = List ℕ} c (replicate w 0)) ≡ c = length-replicate c (replicate w 0) in
       let ys = overwrite (B .place) (replicate (B .size) 0) xs in
       let long = length-overwrite (B .place) (replicate (B .size) 0) xs (omega (arith, inside B refl)) in (
         outside-written (B .place) (B .size) (B .place) (replicate (B .size) 0) xs (omega arith) (omega arith) (inside B refl),
-        ap (λ i. part spot (i * w) ys) n ∙ ap (λ i. part i (c * w) ys) (let q : spot ≡ B .place + (spot - B .place) = omega (arith, place-low B) in q)
-            ∙ sym (part-part (B .place) (B .size) (spot - B .place) (c * w) ys (omega (arith, place-low B)) (omega (arith, inside B refl)))
-            ∙ ap (part (spot - B .place) (c * w)) (part-written (B .place) (B .size) (replicate (B .size) 0) xs z (inside B refl))
-            ∙ part-zeros (spot - B .place) (c * w) (B .size) (omega (arith, place-low B)) ∙ sym (joined-zeros c w),
+        ap (λ i. part target (i * w) ys) n ∙ ap (λ i. part i (c * w) ys) (let q : target ≡ B .place + (target - B .place) = omega (arith, place-low B) in q)
+            ∙ sym (part-part (B .place) (B .size) (target - B .place) (c * w) ys (omega (arith, place-low B)) (omega (arith, inside B refl)))
+            ∙ ap (part (target - B .place) (c * w)) (part-written (B .place) (B .size) (replicate (B .size) 0) xs z (inside B refl))
+            ∙ part-zeros (target - B .place) (c * w) (B .size) (omega (arith, place-low B)) ∙ sym (joined-zeros c w),
       )
 
 -- a line over what was got, with its contents
@@ -155,7 +155,7 @@ module _ (st : State) (tb : Table) (inv : Inv st tb) where
   long-got m w vs (Some B) ys p = p .0 .long
 
   -- blocks got lie in the region
-  got-inside : (c size : ℕ) (a : Meaning) (got : Option Block) → Obtained (st .meaning) a c size got → (B : Block) → got ≡ Some B → B .place + B .size ≤ length (st .bytes)
+  pub got-inside : (c size : ℕ) (a : Meaning) (got : Option Block) → Obtained (st .meaning) a c size got → (B : Block) → got ≡ Some B → B .place + B .size ≤ length (st .bytes)
   got-inside c size a got o B e = omega (arith, o .lawful .within B (o .blocks B .1 (inl e)), inv .long, o .fixed .extent)
 
   pub make : (k : Kind) (mutable : Bool) (c claim m : ℕ) (vs : List (List ℕ)) (writes : Option Block → List ℕ) (g : Grant) (st′ : State) → 1 ≤ k .width → 1 ≤ claim → 1 ≤ m → Even (k .width) vs → length vs ≤ c

@@ -23,7 +23,7 @@ use Rattle.model.specs.declared.line.Backing.the-variants.{Owned}
 use Rattle.model.specs.declared.line.Line.{Line}
 use Rattle.model.specs.Book.{State, block-of, look-up, serial-of, shown}
 use Rattle.model.specs.Checks.{enough, smaller, takes-new, wanted-bytes, wanted-request}
-use Rattle.model.specs.Effects.{Gives-back, Grown, Reserves, Takes-new, appended, put-line, relocated, with-bytes, with-len, with-meaning}
+use Rattle.model.specs.Effects.{Gives-back, Grown, Relocates, Reserves, Takes-new, appended, put-line, relocated, with-bytes, with-len, with-meaning}
 use Rattle.model.specs.Keyed.{update}
 use Rattle.model.specs.Patterns.{Even, joined}
 use Rattle.model.specs.Pedigree.{Row, Table, key-of, last-or, row, spelling, upon}
@@ -37,13 +37,17 @@ use Rattle.model.proofs.Shapes.{never, undisturbed-outside}
 pub same-fixed : (a b c : Meaning) → Fixed a b → Fixed b c → Fixed a c
 same-fixed a b c p q = record { base = q .base ∙ p .base; extent = q .extent ∙ p .extent; room = q .room ∙ p .room; copies = q .copies ∙ p .copies }
 
+-- the growth rule holds the elements and those to come
+pub wanted-holds : (l : Line) (more : ℕ) → (l .len + more) * l .kind .width ≤ wanted-bytes l more
+wanted-holds l more = omega arith
+
 -- what both ways of getting a block for a line come to
-pub record Relocation (st : State) (l : Line) (size spot : ℕ) (B : Block) (a : Meaning) (ys : List ℕ) : Type 0 where
+pub record Relocation (st : State) (l : Line) (size target : ℕ) (B : Block) (a : Meaning) (ys : List ℕ) : Type 0 where
   pub lawful : Lawful a
   pub fixed : Fixed (st .meaning) a
   pub sized : B .size ≡ size
   pub outside : Outside (B .place) (B .size) (st .bytes) ys
-  pub moved : part spot (l .len * l .kind .width) ys ≡ shown (st .meaning .base) l (st .bytes)
+  pub moved : part target (l .len * l .kind .width) ys ≡ shown (st .meaning .base) l (st .bytes)
   pub blocks : (C : Block) → Among C (a .live) ↔ ((C ≡ B) ⊎ (Among C (st .meaning .live) × (block-of (l .backing) ≡ Some C → ⊥)))
   pub fresh : Among B (st .meaning .live) → block-of (l .backing) ≡ Some B
 
@@ -55,8 +59,8 @@ module _ (st : State) (tb : Table) (inv : Inv st tb) (s : ℕ) (l : Line) (e : l
   long-shown = let t = inv .spelled s l e in ap length (sym (t .2 .spells)) ∙ length-joined (l .kind .width) (t .0 .list) (t .2 .even) ∙ ap (λ z. z * l .kind .width) (t .2 .len)
 
   -- allocate, copy, give back
-  relocate-anew : (L : Request) (spot : ℕ) (B : Block) (a : Meaning) (ys : List ℕ) → B .place ≤ spot → spot + l .len * l .kind .width ≤ B .place + L .size → Takes-new (st .meaning) (st .bytes) l L spot B a ys → Relocation st l (L .size) spot B a ys
-  relocate-anew L spot B a ys low high n = go (block-of (l .backing)) refl (n .gives)
+  relocate-anew : (L : Request) (target : ℕ) (B : Block) (a : Meaning) (ys : List ℕ) → B .place ≤ target → target + l .len * l .kind .width ≤ B .place + L .size → Takes-new (st .meaning) (st .bytes) l L target B a ys → Relocation st l (L .size) target B a ys
+  relocate-anew L target B a ys low high n = go (block-of (l .backing)) refl (n .gives)
     where
       x : Allocates (st .meaning) L B (n .between)
       x = n .gets
@@ -64,16 +68,16 @@ module _ (st : State) (tb : Table) (inv : Inv st tb) (s : ℕ) (l : Line) (e : l
       fits : B .place + B .size ≤ length (st .bytes)
       fits = omega (arith, x .lawful .within B (x .live B .1 (inl refl)), inv .long, x .fixed .extent)
 
-      written : ys ≡ overwrite spot (shown (st .meaning .base) l (st .bytes)) (st .bytes)
+      written : ys ≡ overwrite target (shown (st .meaning .base) l (st .bytes)) (st .bytes)
       written = n .writes
 
       out : Outside (B .place) (B .size) (st .bytes) ys
-      out = subst (Outside (B .place) (B .size) (st .bytes)) (sym written) (outside-written (B .place) (B .size) spot (shown (st .meaning .base) l (st .bytes)) (st .bytes) low (omega (arith, long-shown, x .size)) fits)
+      out = subst (Outside (B .place) (B .size) (st .bytes)) (sym written) (outside-written (B .place) (B .size) target (shown (st .meaning .base) l (st .bytes)) (st .bytes) low (omega (arith, long-shown, x .size)) fits)
 
-      moves : part spot (l .len * l .kind .width) ys ≡ shown (st .meaning .base) l (st .bytes)
-      moves = ap (part spot (l .len * l .kind .width)) written ∙ part-written spot (l .len * l .kind .width) (shown (st .meaning .base) l (st .bytes)) (st .bytes) long-shown (omega (arith, fits, x .size))
+      moves : part target (l .len * l .kind .width) ys ≡ shown (st .meaning .base) l (st .bytes)
+      moves = ap (part target (l .len * l .kind .width)) written ∙ part-written target (l .len * l .kind .width) (shown (st .meaning .base) l (st .bytes)) (st .bytes) long-shown (omega (arith, fits, x .size))
 
-      go : (o : Option Block) → block-of (l .backing) ≡ o → Gives-back (n .between) o a → Relocation st l (L .size) spot B a ys
+      go : (o : Option Block) → block-of (l .backing) ≡ o → Gives-back (n .between) o a → Relocation st l (L .size) target B a ys
       go None q g =
           let f : Fixed (st .meaning) a = subst (Fixed (st .meaning)) (sym g) (x .fixed) in
           record {
@@ -99,8 +103,8 @@ module _ (st : State) (tb : Table) (inv : Inv st tb) (s : ℕ) (l : Line) (e : l
       }
 
   -- grow and move
-  relocate-grown : (L : Request) (spot : ℕ) (B : Block) (a : Meaning) (ys : List ℕ) → B .place ≤ spot → spot + l .len * l .kind .width ≤ B .place + L .size → (n : Grown (st .meaning) (st .bytes) l L spot B a ys) → n .from .size ≤ L .size → Relocation st l (L .size) spot B a ys
-  relocate-grown L spot B a ys low high n larger =
+  relocate-grown : (L : Request) (target : ℕ) (B : Block) (a : Meaning) (ys : List ℕ) → B .place ≤ target → target + l .len * l .kind .width ≤ B .place + L .size → (n : Grown (st .meaning) (st .bytes) l L target B a ys) → n .from .size ≤ L .size → Relocation st l (L .size) target B a ys
+  relocate-grown L target B a ys low high n larger =
       let D = n .from in
       let x = n .grows in
       let w = l .len * l .kind .width in
@@ -109,16 +113,16 @@ module _ (st : State) (tb : Table) (inv : Inv st tb) (s : ℕ) (l : Line) (e : l
       let d = inside st tb inv s l e D (n .was) in
       let fits : B .place + B .size ≤ length (n .between) = omega (arith, x .lawful .within B (x .live B .1 (inl refl)), inv .long, x .fixed .extent, x .outside .long) in
       let long : length (part (B .place + off) w (n .between)) ≡ w = length-part (B .place + off) w (n .between) (omega (arith, z .0, z .1, x .size)) in
-      let spot-was : D .place + off ≡ l .start - st .meaning .base = omega (arith, z .0) in
+      let old-place : D .place + off ≡ l .start - st .meaning .base = omega (arith, z .0) in
       record {
         lawful = x .lawful;
         fixed = x .fixed;
         sized = x .size;
         outside = outside-more (B .place) (B .size) (st .bytes) (n .between) ys (x .outside)
-            (subst (Outside (B .place) (B .size) (n .between)) (sym (n .moves)) (outside-written (B .place) (B .size) spot (part (B .place + off) w (n .between)) (n .between) low (omega (arith, x .size)) fits));
-        moved = ap (part spot w) (n .moves) ∙ part-written spot w (part (B .place + off) w (n .between)) (n .between) long (omega (arith, x .size))
+            (subst (Outside (B .place) (B .size) (n .between)) (sym (n .moves)) (outside-written (B .place) (B .size) target (part (B .place + off) w (n .between)) (n .between) low (omega (arith, x .size)) fits));
+        moved = ap (part target w) (n .moves) ∙ part-written target w (part (B .place + off) w (n .between)) (n .between) long (omega (arith, x .size))
             ∙ sym (part-part (B .place) (D .size) off w (n .between) (omega (arith, z .0, z .1)) (omega (arith, x .size)))
-            ∙ ap (part off w) (x .kept) ∙ part-part (D .place) (D .size) off w (st .bytes) (omega (arith, z .0, z .1)) d ∙ ap (λ p. part p w (st .bytes)) spot-was
+            ∙ ap (part off w) (x .kept) ∙ part-part (D .place) (D .size) off w (st .bytes) (omega (arith, z .0, z .1)) d ∙ ap (λ p. part p w (st .bytes)) old-place
             ∙ sym (shown-is (st .meaning .base) l (st .bytes) D (n .was));
         blocks = λ C. (λ y. ⊎-elim inl (λ v. inr (v .0, λ q. v .1 (let u : C ≡ D = cc (n .was, q) in u))) (x .live C .0 y), λ y. x .live C .1 (⊎-elim inl (λ v. inr (v .0, λ q. v .1 (n .was ∙ ap {B = Option Block} Some (sym q)))) y));
         fresh = λ y. n .was ∙ ap {B = Option Block} Some (sym (x .new y));
@@ -139,6 +143,20 @@ module _ (st : State) (tb : Table) (inv : Inv st tb) (s : ℕ) (l : Line) (e : l
   smaller-no : (n : ℕ) (o : Option Block) (D : Block) → o ≡ Some D → smaller n o ≡ false → D .size ≤ n
   smaller-no n None D q k = absurd (never refl q)
   smaller-no n (Some C) D q k = subst (λ z. z .size ≤ n) (let u : C ≡ D = cc in u) (ltb-false n (C .size) k)
+
+  -- whichever way the block is got
+  pub relocation-of : (more : ℕ) (bs : List Block) (st′ : State) (h : Relocates st l more bs st′) → Relocation st l (wanted-bytes l more + l .claim) (round-up (st .meaning .base + h .block .place) (l .claim) - st .meaning .base) (h .block) (h .meaning) (h .bytes)
+  relocation-of more bs st′ h =
+      let B = h .block in
+      let N = wanted-bytes l more in
+      let start = round-up (st .meaning .base + B .place) (l .claim) in
+      let low = round-up-low (st .meaning .base + B .place) (l .claim) in
+      let high = round-up-high (st .meaning .base + B .place) (l .claim) (inv .spelled s l e .2 .claims) in
+      let m : (l .len + more) * l .kind .width ≤ N = wanted-holds l more in
+      ⊎-elim (λ (c : takes-new (st .meaning) l more ≡ true). relocate-anew (wanted-request l more) (start - st .meaning .base) B (h .meaning) (h .bytes) (omega arith) (omega arith) (h .by-new c))
+      (λ (c : takes-new (st .meaning) l more ≡ false). let g = h .by-growth c in
+      relocate-grown (wanted-request l more) (start - st .meaning .base) B (h .meaning) (h .bytes) (omega arith) (omega arith) g (smaller-no (N + l .claim) (block-of (l .backing)) (g .from) (g .was) (or-parts (st .meaning .copies) (smaller (N + l .claim) (block-of (l .backing))) c .1)))
+      (cases-bool (takes-new (st .meaning) l more))
 
   pub reserved : (more : ℕ) (b : Bool) (bs : List Block) (between : State) → l .mutable ≡ true → l .serial ≡ s → enough l more ≡ b → Reserves b st l more bs between → Ready more bs between
   unfolding upon put-line with-meaning with-bytes
@@ -169,12 +187,8 @@ module _ (st : State) (tb : Table) (inv : Inv st tb) (s : ℕ) (l : Line) (e : l
       let r′ : f (t .0) ≡ upon (t .0) (Some B) = ap (λ z. upon (t .0) (last-or (t .0 .block) z)) (h .got) in
       let low = round-up-low (st .meaning .base + B .place) (l .claim) in
       let high = round-up-high (st .meaning .base + B .place) (l .claim) (t .2 .claims) in
-      let m : l .len * w + more * w ≤ N = omega arith in
-      let relocation : Relocation st l (N + l .claim) (start - st .meaning .base) B (h .meaning) (h .bytes) =
-      ⊎-elim (λ (c : takes-new (st .meaning) l more ≡ true). relocate-anew (wanted-request l more) (start - st .meaning .base) B (h .meaning) (h .bytes) (omega arith) (omega arith) (h .by-new c))
-      (λ (c : takes-new (st .meaning) l more ≡ false). let g = h .by-growth c in
-      relocate-grown (wanted-request l more) (start - st .meaning .base) B (h .meaning) (h .bytes) (omega arith) (omega arith) g (smaller-no (N + l .claim) (block-of (l .backing)) (g .from) (g .was) (or-parts (st .meaning .copies) (smaller (N + l .claim) (block-of (l .backing))) c .1)))
-      (cases-bool (takes-new (st .meaning) l more)) in
+      let m : (l .len + more) * w ≤ N = wanted-holds l more in
+      let relocation = relocation-of more bs between h in
       let div = div-mul N w in
       let fit-in = mul-div N w (l .len + more) (t .2 .wide) (omega arith) in
       record {

@@ -1,15 +1,15 @@
 -- What holds in every world that a run comes to.
 use mathlib.Core.Bool.{true, false}
 use mathlib.Core.List.{List, []}
-use mathlib.Core.Logic.{_↔_}
+use mathlib.Core.Logic.{_↔_, _⊎_}
 use mathlib.Core.Path.{_≡_}
 use Prim.Native.Nat.{ℕ, _+_, _*_, _%_, _≤_, _<_, max}
-use lib.ListN.{length}
+use lib.ListN.{length, getD}
 use Rattle.std.specs.declared.option.Option.the-variants.{Some, None}
 use Rattle.region.specs.Bytes.{equal, part}
 use Rattle.allocation.specs.declared.block.Block.{Block}
 use Rattle.allocation.specs.declared.fault.Fault.{Fault}
-use Rattle.allocation.specs.declared.fault.Fault.the-variants.{Alone}
+use Rattle.allocation.specs.declared.fault.Fault.the-variants.{Alone, Asked}
 use Rattle.allocation.specs.declared.fault.Refusal.the-variants.{BackingShared, NotGranted}
 use Rattle.allocation.specs.Alignments.{Is-alignment, greatest-size}
 use Rattle.allocation.specs.Meaning.{Among, Apart, Lawful, end-of}
@@ -53,7 +53,7 @@ pub record Kept (base : ℕ) (l : Line) : Type 0 where
   pub low : (b : Block) → block-of (l .backing) ≡ Some b → base + b .place ≤ l .start
   pub high : (b : Block) → block-of (l .backing) ≡ Some b → l .start + l .len * l .kind .width ≤ base + end-of b
   pub room : (b : Block) → block-of (l .backing) ≡ Some b → l .start + l .capacity * l .kind .width ≤ base + end-of b
-  pub bare : block-of (l .backing) ≡ None → l .len ≡ 0
+  pub bare : block-of (l .backing) ≡ None → (l .len ≡ 0) × (l .capacity ≡ 0)
   pub ample : l .mutable ≡ true → l .len ≤ l .capacity
   pub shared : l .mutable ≡ false → l .capacity ≡ 0
 
@@ -61,6 +61,13 @@ abbrev pub Lines-law : Type 0
 Lines-law =
     (w : World) → Reached w → (s : Store) → In s w
     → (length (s .state .lines) ≤ line-limit) × ((n : ℕ) (l : Line) → look-up n (s .state) ≡ Some l → Kept (s .state .meaning .base) l)
+
+-- a mutable handle is alone on its block
+abbrev pub Alone-law : Type 0
+Alone-law =
+    (w : World) → Reached w → (s : Store) → In s w
+    → (m n : ℕ) (k l : Line) (b : Block) → (n ≡ m → ⊥) → look-up m (s .state) ≡ Some k → look-up n (s .state) ≡ Some l
+    → block-of (k .backing) ≡ Some b → block-of (l .backing) ≡ Some b → k .mutable ≡ false
 
 -- a part that a store shows: the read is granted, the handle's row is r, and the part's bytes are xs
 pub record Shows (s : Store) (n : ℕ) (h : Handle) (r : Row) (xs : List ℕ) : Type 0 where
@@ -94,6 +101,18 @@ Frame-law =
     → (t : ℕ) (l : Line) → look-up t (s .state) ≡ Some l → All (λ h. h .serial ≡ t → ⊥) (brings c .handles)
     → (look-up t st′ ≡ Some l) × (shown (st′ .meaning .base) l (st′ .bytes) ≡ shown (s .state .meaning .base) l (s .state .bytes))
 
+-- a place outside of a block
+abbrev pub Off : ℕ → Block → Type 0
+Off i b = (i < b .place) ⊎ (end-of b ≤ i)
+
+-- a granted call writes nowhere but in blocks that it got or grew and in the blocks under its handles
+abbrev pub Writes-law : Type 0
+Writes-law =
+    (w : World) → Reached w → (s : Store) → In s w
+    → (n : ℕ) (c : Call) (g : Grant) (st′ : State) → Sound c → Answers (s .state) n c (granted g) st′
+    → (i : ℕ) → ((b : Block) → Among b (g .blocks) → Off i b) → All (λ h. (b : Block) → block-of (line (s .state) h .backing) ≡ Some b → Off i b) (brings c .handles)
+    → getD (st′ .bytes) i 0 ≡ getD (s .state .bytes) i 0
+
 -- the live blocks are those under rows
 abbrev pub Blocks-law : Type 0
 Blocks-law =
@@ -118,6 +137,14 @@ Sharing-law =
     → (n : ℕ) (h : Handle) → refusal (checks (s .state) n (read h)) ≡ None → h .mutable ≡ false
     → (refusal (checks (s .state) n (try-into-mut h)) ≡ Some (Alone BackingShared)) ↔ Has-other (s .state) (line (s .state) h)
 
+-- a refusal comes alone, or is the allocator's, with what was asked of it
+abbrev pub Plain-fault : Fault → Type 0
+Plain-fault (Alone r) = Unit {0}
+Plain-fault (Asked r layer q) = (r ≡ NotGranted) × (q .align ≡ 1)
+
+abbrev pub Faults-law : Type 0
+Faults-law = (st : State) (n : ℕ) (c : Call) (f : Fault) (st′ : State) → Answers st n c (refused f) st′ → Plain-fault f
+
 -- what `with_capacity_in` asks for
 abbrev pub asked-bytes : Kind → ℕ → ℕ
 asked-bytes k c = c * k .width + max (k .align) preferred-alignment
@@ -138,7 +165,7 @@ Grant-law =
 
 -- the whole law
 abbrev pub Store-law : Type 0
-Store-law = Rows-law × Lines-law × Parts-law × Place-law × Frame-law × Blocks-law × Fresh-law × Sharing-law × Room-law × Grant-law
+Store-law = Rows-law × Lines-law × Alone-law × Parts-law × Place-law × Frame-law × Writes-law × Blocks-law × Fresh-law × Sharing-law × Faults-law × Room-law × Grant-law
 
 -- The invariant of a state alone: it holds of a new store and in every world that a run comes to, every call keeps it, and nothing is lost where only its truth is kept.
 abbrev pub Invariant-law : Type 0
