@@ -1,0 +1,13 @@
+pub mod Keyed
+pub mod Patterns
+pub mod Kinds
+pub mod Book
+pub mod Calls
+pub mod Checks
+pub mod Effects
+pub mod Answers
+pub mod Reads
+pub mod Pedigree
+pub mod Runs
+pub mod Laws
+pub mod Invariant
