@@ -5,7 +5,7 @@ use Rattle.std.proofs.shelf.Results.{err-from-errBy}
 use Rattle.std.proofs.shelf.Tests.{le-ltb, lt-ltb}
 use Rattle.allocation.specs.Alignments.{greatest-size, round-up}
 use Rattle.allocation.proofs.Rounding.{round-up-low, round-up-high}
-use Rattle.decisions.proofs.checks.layout_of.Needs as need
+use Rattle.checks.proofs.layout_of.Needs as need
 
 -- every size is a multiple of one byte
 at-one : (n e : ℕ) → e ≡ 0 → round-up n (2 ^ e) ≡ n

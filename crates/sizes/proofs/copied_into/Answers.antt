@@ -1,5 +1,5 @@
 use Rattle.model.specs.Effects.{copied-into}
-use Rattle.decisions.proofs.sizes.copied_into.Needs as need
+use Rattle.sizes.proofs.copied_into.Needs as need
 
 pub returns : need.returns
 unfolding copied-into

@@ -1,7 +1,7 @@
 use Prim.Native.Nat.{_+_}
 use native.Mathlib.Omega.{arith}
 use Rattle.allocation.proofs.Rounding.{round-up-low, round-up-high}
-use Rattle.decisions.proofs.sizes.capacity_in.Needs as need
+use Rattle.sizes.proofs.capacity_in.Needs as need
 
 pub sub-offset : need.sub-offset
 sub-offset c = omega (arith, round-up-low (c .args .base + c .in-Some .block .place) (c .args .m), c .round-up .ensures)

@@ -1,6 +1,6 @@
 use borrow.Author.Needs.{needs}
 use Rattle.model.specs.Book.{block-of}
-use Rattle.decisions.proofs.sizes.unfrozen.Needs as need
+use Rattle.sizes.proofs.unfrozen.Needs as need
 
 pub room-behind-requires : need.room-behind-requires
 unfolding block-of

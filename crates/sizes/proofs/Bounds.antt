@@ -12,7 +12,7 @@ use Rattle.model.specs.declared.line.Line.{Line}
 use Rattle.model.specs.Checks.{request-for}
 use Rattle.model.specs.Effects.{Obtains}
 use Rattle.model.specs.Invariant.{Sits}
-use Rattle.decisions.specs.Numbers.{Spaced}
+use Rattle.sizes.specs.Numbers.{Spaced}
 
 -- a block that was got for n bytes leaves room to round up to an alignment a of at most n
 pub spaced-block : (m m′ : Meaning) (n a : ℕ) (b : Block) → m .base + m .extent < 2 ^ 64 → 1 ≤ a → a ≤ n → Allocates m (request-for n) b m′ → Spaced (m .base) a (Some b)

@@ -6,7 +6,7 @@ ghost use mathlib.Core.Bool.{true, false, _||_};
 ghost use mathlib.Core.Path.{_≡_};
 ghost use Prim.Native.Nat.{_+_, _-_, _*_, _/_, _^_, _≤_, _<_, max};
 ghost use Rattle.allocation.specs.Alignments.{round-up};
-ghost use Rattle.decisions.specs.Numbers.{Spaced, state-with};
+ghost use Rattle.sizes.specs.Numbers.{Spaced, state-with};
 ghost use Rattle.model.specs.Book.{block-of, usable};
 ghost use Rattle.model.specs.Checks.{enough, smaller, is-aligned};
 ghost use Rattle.model.specs.Effects.{start-in, capacity-in, made, copied-into, regrouped, slice-line, unfrozen};

@@ -8,13 +8,11 @@ ghost use Prim.Native.Nat.{_+_, _*_, _^_, _≤_, _<_};
 ghost use Rattle.allocation.specs.Asked.{asked};
 ghost use Rattle.allocation.specs.declared.fault.Fault.the-variants.{Alone};
 ghost use Rattle.allocation.specs.declared.fault.Refusal.the-variants.{BoundOverflow};
-ghost use Rattle.decisions.specs.Groups.{below-kind, too-large, size-checks, growth-checks, range-checks, misplaced, placing-checks, start-check, aligned-checks, regroup-checks, index-check, shared-check};
+ghost use Rattle.checks.specs.Groups.{below-kind, too-large, size-checks, growth-checks, range-checks, misplaced, placing-checks, start-check, aligned-checks, regroup-checks, index-check, shared-check};
 ghost use Rattle.model.specs.Checks.{refusal, overflows, request-for, wanted-bytes, wanted-request, begin, finish, begin-overflows, finish-overflows, slice-checks};
 ghost use Rattle.std.specs.declared.option.Option.the-variants.{Some, None};
 ghost use Rattle.std.specs.Options.{Cases as BySome};
 ghost use Rattle.std.specs.Results.{Cases};
-use crate::sizes::grown;
-use crate::sizes::is_aligned;
 use allocation::alignment::Alignment;
 use allocation::fault::Fault;
 use allocation::fault::Refusal;
@@ -23,6 +21,8 @@ use allocation::layout::Layout;
 use model::line::Bound;
 use model::line::Kind;
 use model::line::Line;
+use sizes::grown;
+use sizes::is_aligned;
 
 // The alignment is at least that of the kind.
 pub fn fits_kind(kind: Kind, claim: usize) -> Result<(), Fault>

@@ -15,7 +15,7 @@ use Rattle.model.specs.declared.line.Line.{Line}
 use Rattle.model.specs.Book.{State, line, shared-by}
 use Rattle.model.specs.Calls.{WithCapacity, Zeroed, CopyFrom, EmptyShared, Set, FromBytes, TryIntoMut, EnsureAligned}
 use Rattle.model.specs.Checks.{Check, refusal, block-checks, enough, reserve-checks, begin, finish, slice-checks, own}
-use Rattle.decisions.specs.Groups.{below-kind, size-checks, grant-check, growth-checks, room-check, range-checks, placing-checks, aligned-checks, regroup-checks, index-check, shared-check}
+use Rattle.checks.specs.Groups.{below-kind, size-checks, grant-check, growth-checks, room-check, range-checks, placing-checks, aligned-checks, regroup-checks, index-check, shared-check}
 
 -- a group that refuses nothing leaves the refusal to the next, and one that refuses has the word
 pub passes : (xs ys : List Check) → refusal xs ≡ None → refusal (xs ++ ys) ≡ refusal ys

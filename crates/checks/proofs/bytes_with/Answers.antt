@@ -5,7 +5,7 @@ use Prim.Native.Nat.{ℕ, _+_, _*_, _^_, _≤_, _<_}
 use native.Mathlib.Nat.{mul-le-mul-right, mul-comm}
 use native.Mathlib.Omega.{arith}
 use Rattle.std.proofs.shelf.Tests.{le-leb, cases-lt}
-use Rattle.decisions.proofs.checks.bytes_with.Needs as need
+use Rattle.checks.proofs.bytes_with.Needs as need
 
 -- a count beyond 64 bits is beyond them in bytes too
 more-by : (x w : ℕ) → 1 ≤ w → (x < 2 ^ 64 → ⊥) → 2 ^ 64 ≤ x * w

@@ -3,8 +3,8 @@ use Prim.Native.Nat.{ℕ, _+_, _*_, _^_, _≤_, _<_}
 use native.Mathlib.Nat.{mul-le-mul-right}
 use native.Mathlib.Omega.{arith}
 use Rattle.std.proofs.shelf.Results.{err-from-errBy}
-use Rattle.decisions.proofs.Joins.{slice-passes, slice-stops}
-use Rattle.decisions.proofs.checks.slices.Needs as need
+use Rattle.checks.proofs.Joins.{slice-passes, slice-stops}
+use Rattle.checks.proofs.slices.Needs as need
 
 -- an element of the line starts before the line ends
 before : (start n len w : ℕ) → n ≤ len → start + len * w < 2 ^ 64 → start + n * w < 2 ^ 64
