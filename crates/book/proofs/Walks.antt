@@ -1,8 +1,9 @@
 -- Loops over keyed lists: a turn passes a thing by, or finds it.
 use mathlib.Core.Bool.{Bool, true, false, cond}
 use mathlib.Core.List.{List, [], _∷_, _++_}
+use mathlib.Core.Logic.{⊎-elim}
 use mathlib.Core.Path.{_≡_, refl, sym, ap, _∙_}
-use Prim.Native.Nat.{ℕ, zero, suc, _+_, _-_, _≤_, _<_}
+use Prim.Native.Nat.{ℕ, zero, suc, _+_, _-_, _≤_, _<_, min}
 use native.Mathlib.Omega.{arith}
 use lib.Dec.{eqb}
 use lib.ListN.{length, getD, take, drop, set}
@@ -10,7 +11,8 @@ use lib.Seq.{paste}
 use Rattle.std.specs.declared.option.Option.the-variants.{None}
 use Rattle.std.specs.Holes.{removed}
 use Rattle.std.proofs.shelf.Edits.{take-paste}
-use Rattle.std.proofs.shelf.Lists.{drop-more, drop-all, drop-take, take-take, length-take, length-drop}
+use Rattle.std.proofs.shelf.Tests.{cases-lt}
+use Rattle.std.proofs.shelf.Lists.{take-all, drop-more, drop-all, drop-take, take-take, length-take, length-drop}
 use Rattle.model.specs.Keyed.{find, any-other}
 
 pub find-end : {X : Type 0} (key : X → ℕ) (s : ℕ) (xs : List X) (i : ℕ) → length xs ≤ i → find key s (drop i xs) ≡ None
@@ -43,6 +45,10 @@ module _ {X : Type 0} (key : X → ℕ) (s : ℕ) (d : X) (xs : List X) (i : ℕ
       go true b e = absurd (mathlib.Core.Bool.false≢true e)
       go false true e = refl
       go false false e = absurd (mathlib.Core.Bool.false≢true e)
+
+-- the first n, where the list is no longer than a limit
+pub take-within : {X : Type 0} (n limit : ℕ) (xs : List X) → length xs ≤ limit → take (min n limit) xs ≡ take n xs
+take-within n limit xs h = ⊎-elim (λ (k : n < limit). ap (λ m. take m xs) (let e : min n limit ≡ n = omega arith in e)) (λ (k : limit ≤ n). ap (λ m. take m xs) (let e : min n limit ≡ limit = omega arith in e) ∙ take-all limit xs h ∙ sym (take-all n xs (omega arith))) (cases-lt n limit)
 
 -- a change among the first n
 pub take-set-within : {X : Type 0} (n : ℕ) (xs : List X) (i : ℕ) (y : X) → take n (set xs i y) ≡ set (take n xs) i y

@@ -2,16 +2,18 @@
 // The book of a store: one line for each live handle.
 // Stands for what the fields of `BufferMut` and `Buffer` and their `Arc` counts hold in vortex-buffer 0.90.0.
 ghost use lib.Dec.{leb};
-ghost use lib.ListN.{length, set};
+ghost use lib.ListN.{length, drop, set};
+ghost use lib.Seq.{paste};
 ghost use mathlib.Core.List.{[], _∷_, _++_};
 ghost use mathlib.Core.Path.{_≡_};
-ghost use Prim.Native.Nat.{_≤_, _<_};
+ghost use Prim.Native.Nat.{_+_, _-_, _≤_, _<_, min};
 ghost use Rattle.book.specs.Held.{lines-of, line-at, At};
 ghost use Rattle.model.specs.Book.{line-limit, serial-of, one-backing};
 ghost use Rattle.model.specs.Keyed.{find, any-other};
 ghost use Rattle.std.specs.declared.option.Option.the-variants.{None};
 ghost use Rattle.std.specs.Holes.{removed};
 ghost use Rattle.std.specs.Options.{Cases as BySome};
+use crate::lines::has_serial;
 use crate::lines::other_on;
 use model::line::Backing;
 use model::line::Kind;
@@ -25,6 +27,30 @@ pub const LINE_LIMIT: usize = 64;
 pub struct Book {
     pub lines: [Line; 64],
     pub count: usize,
+}
+
+// A count of lines, at most the limit.
+fn within_limit(count: usize) -> usize
+    ensures { λ r. ⌜ r ≡ min count line-limit ⌝ }
+{
+    count.min(LINE_LIMIT)
+}
+
+// Changes the line at a place, where it stands.
+fn replace(lines: &mut [Line], i: usize, new: Line)
+    requires { ⌜ i < length (now lines) ⌝ }
+    ensures { λ _. ⌜ now (lines .exit) ≡ set (now (lines .entry)) i new ⌝ }
+{
+    let line = &mut lines[i];
+    *line = new;
+}
+
+// Moves the lines behind a place up by one, among the first n.
+fn close_gap(lines: &mut [Line], i: usize, n: usize)
+    requires { ⌜ (i < n) × (n ≤ length (now lines)) ⌝ }
+    ensures { λ _. ⌜ now (lines .exit) ≡ paste (now (lines .entry)) i (drop (i + 1) (now (lines .entry))) (n - (i + 1)) ⌝ }
+{
+    lines.copy_within(i + 1..n, i);
 }
 
 impl Book {
@@ -54,12 +80,7 @@ impl Book {
         ensures few { λ r. ⌜ length (now r) ≤ line-limit ⌝ }
     {
         let lines = &self.lines[..];
-        let n = if self.count < LINE_LIMIT {
-            self.count
-        } else {
-            LINE_LIMIT
-        };
-        &lines[..n]
+        &lines[..within_limit(self.count)]
     }
 
     // Whether there is no room for another line.
@@ -77,7 +98,7 @@ impl Book {
     {
         let lines = self.as_slice();
         for i in (0..lines.len()).rev() {
-            if lines[i].serial == serial {
+            if has_serial(lines[i], serial) {
                 return Some(i);
             }
         }
@@ -111,7 +132,7 @@ impl Book {
         ensures { λ _. ⌜ lines-of (now (self .exit)) ≡ lines-of (now (self .entry)) ++ line ∷ [] ⌝ }
     {
         let lines = &mut self.lines[..];
-        lines[self.count] = line;
+        replace(lines, self.count, line);
         self.count += 1;
     }
 
@@ -121,8 +142,7 @@ impl Book {
         ensures { λ _. ⌜ lines-of (now (self .exit)) ≡ set (lines-of (now (self .entry))) i new ⌝ }
     {
         let lines = &mut self.lines[..];
-        let line = &mut lines[i];
-        *line = new;
+        replace(lines, i, new);
     }
 
     // Removes the line at a place; those behind it move up.
@@ -132,7 +152,7 @@ impl Book {
     {
         let n = self.as_slice().len();
         let lines = &mut self.lines[..];
-        lines.copy_within(i + 1..n, i);
+        close_gap(lines, i, n);
         self.count = n - 1;
     }
 }

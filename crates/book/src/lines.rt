@@ -5,7 +5,7 @@ ghost use lib.Dec.{eqb, leb};
 ghost use mathlib.Core.Bool.{cond, false};
 ghost use mathlib.Core.Path.{_≡_};
 ghost use Rattle.model.specs.Book.{agrees, block-of, one-backing};
-ghost use Rattle.model.specs.Effects.{with-len, with-serial, with-backing, with-claim, regrouped, frozen, made-as, empty-line, unbacked-line, block-left, backing-in, relocated, shortened, shared-with};
+ghost use Rattle.model.specs.Effects.{with-len, with-state, with-serial, with-backing, with-claim, regrouped, frozen, made-as, empty-line, unbacked-line, block-left, backing-in, relocated, shortened, shared-with};
 ghost use Rattle.std.specs.declared.option.Option.the-variants.{Some};
 use allocation::alignment::DEFAULT_ALIGNMENT;
 use allocation::block::Block;
@@ -32,11 +32,18 @@ pub fn one_backing(b: Backing, c: Backing) -> bool
     }
 }
 
+// Whether the line is the one of a serial.
+pub fn has_serial(line: Line, serial: u32) -> bool
+    ensures { λ r. ⌜ r ≡ eqb (line .serial) serial ⌝ }
+{
+    line.serial == serial
+}
+
 // Whether the line is of another serial, and on this backing.
 pub fn other_on(line: Line, backing: Backing, serial: u32) -> bool
     ensures { λ r. ⌜ r ≡ cond (eqb (line .serial) serial) false (one-backing backing (line .backing)) ⌝ }
 {
-    line.serial != serial && one_backing(backing, line.backing)
+    !has_serial(line, serial) && one_backing(backing, line.backing)
 }
 
 // The block of a backing.
@@ -143,26 +150,29 @@ pub fn shortened(line: Line, n: usize) -> Line
     }
 }
 
+pub fn with_state(line: Line, mutable: bool, capacity: usize) -> Line
+    ensures { λ r. ⌜ r ≡ with-state line mutable capacity ⌝ }
+{
+    Line {
+        mutable,
+        capacity,
+        ..line
+    }
+}
+
 // The line of a shared handle: it has no capacity.
 pub fn frozen(line: Line) -> Line
     ensures { λ r. ⌜ r ≡ frozen line ⌝ }
 {
-    Line {
-        mutable: false,
-        capacity: 0,
-        ..line
-    }
+    with_state(line, false, 0)
 }
 
 // A new line as it was made, or frozen at once.
 pub fn made_as(mutable: bool, line: Line) -> Line
     ensures { λ r. ⌜ r ≡ made-as mutable line ⌝ }
 {
-    Line {
-        mutable,
-        capacity: if mutable { line.capacity } else { 0 },
-        ..line
-    }
+    let capacity = if mutable { line.capacity } else { 0 };
+    with_state(line, mutable, capacity)
 }
 
 // The same bytes as elements of another kind.

@@ -4,7 +4,7 @@
 ghost use lib.Dec.{ltb};
 ghost use mathlib.Core.Bool.{true, false, _||_};
 ghost use mathlib.Core.Path.{_≡_};
-ghost use Prim.Native.Nat.{_+_, _-_, _*_, _/_, _^_, _≤_, _<_, max};
+ghost use Prim.Native.Nat.{_+_, _-_, _*_, _/_, _%_, _^_, _≤_, _<_, max};
 ghost use Rattle.allocation.specs.Alignments.{round-up};
 ghost use Rattle.sizes.specs.Numbers.{Spaced, state-with};
 ghost use Rattle.model.specs.Book.{block-of, usable};
@@ -22,16 +22,28 @@ use book::lines::block_of;
 use book::lines::empty_line;
 use book::lines::regrouped;
 use book::lines::unbacked_line;
+use book::lines::with_state;
 use model::line::Backing;
 use model::line::Kind;
 use model::line::Line;
 
+// How far n lies below the first multiple of m.
+fn padding(n: usize, m: usize) -> usize
+    requires { ⌜ 1 ≤ m ⌝ }
+    ensures value { λ r. ⌜ r ≡ (m - n % m) % m ⌝ }
+    ensures below { λ r. ⌜ r < m ⌝ }
+{
+    (m - n % m) % m
+}
+
 // The first multiple of m at or above n.
 pub fn round_up(n: usize, m: usize) -> usize
     requires { ⌜ (1 ≤ m) × (n + m < 2 ^ 64) ⌝ }
-    ensures { λ r. ⌜ r ≡ round-up n m ⌝ }
+    ensures value { λ r. ⌜ r ≡ round-up n m ⌝ }
+    ensures low { λ r. ⌜ n ≤ r ⌝ }
+    ensures high { λ r. ⌜ r < n + m ⌝ }
 {
-    n + (m - n % m) % m
+    n + padding(n, m)
 }
 
 // Where elements start in what was got: at the first multiple of m in the block, and at m without one.
@@ -248,15 +260,7 @@ pub fn unfrozen(base: usize, line: Line) -> Line
 {
     match line.backing {
         Backing::Unbacked => empty_line(line.serial, line.kind, line.claim),
-        Backing::Empty(_) => Line {
-            mutable: true,
-            capacity: 0,
-            ..line
-        },
-        Backing::Owned(block) => Line {
-            mutable: true,
-            capacity: room_behind(base, line, block),
-            ..line
-        },
+        Backing::Empty(_) => with_state(line, true, 0),
+        Backing::Owned(block) => with_state(line, true, room_behind(base, line, block)),
     }
 }
