@@ -27,7 +27,7 @@ use model::line::Backing;
 use model::line::Kind;
 use model::line::Line;
 
-// How far n lies below the first multiple of m.
+// How far n lies below the first multiple of m at or above it.
 fn padding(n: usize, m: usize) -> usize
     requires { ⌜ 1 ≤ m ⌝ }
     ensures value { λ r. ⌜ r ≡ (m - n % m) % m ⌝ }
