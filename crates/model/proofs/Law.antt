@@ -34,6 +34,7 @@ use Rattle.model.specs.Reads.{fails, place-on, same, says}
 use Rattle.model.specs.Runs.{Store, next, start}
 use Rattle.model.proofs.Alignments.{valid-for}
 use Rattle.model.proofs.Checks.{Held, Passed, Stopped, held, passed, past, stopped, unrefused}
+use Rattle.model.proofs.Empties.{one-numbers}
 use Rattle.model.proofs.Faults.{faults-law}
 use Rattle.model.proofs.Fitting.{shown-is, shown-none, sits-off, sits-on}
 use Rattle.model.proofs.Frame.{framed}
@@ -128,7 +129,9 @@ lines-law w r s i = (holds .1 .1 .few, λ n l e. kept n l e)
         }
 
 alone-law : Alone-law
-alone-law w r s i m n k l b d e f x y = inv-at w r s i .alone m n k l b d e f x y
+alone-law w r s i m n k l d e f one =
+    let h = holds-in w (reached-holds w r) s i in
+    ⊎-elim (λ (b, x, y). h .0 .alone m n k l b d e f x y) (λ (x, y). h .2 .alone m n k l d e f x y) (one-numbers (k .backing) (l .backing) one)
 
 blocks-law : Blocks-law
 blocks-law w r s i B =

@@ -14,6 +14,7 @@ pub mod Sharing
 pub mod Reserving
 pub mod Making
 pub mod Calls
+pub mod Empties
 pub mod Runs
 pub mod Fresh
 pub mod Frame

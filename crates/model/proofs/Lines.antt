@@ -96,7 +96,7 @@ start-multiple : (base m : ℕ) (got : Option Block) → 1 ≤ m → start-in ba
 start-multiple base m None h = mod-self m
 start-multiple base m (Some B) h = round-up-multiple (base + B .place) m h
 
-reserves-to : (st : State) → Lines-keep st → (st′ : State) (b : Bool) (l : Line) (n : ℕ) (bs : List Block) → Kept-line l → l .mutable ≡ true → Reserves b st l n bs st′ → Lines-keep st′
+pub reserves-to : (st : State) → Lines-keep st → (st′ : State) (b : Bool) (l : Line) (n : ℕ) (bs : List Block) → Kept-line l → l .mutable ≡ true → Reserves b st l n bs st′ → Lines-keep st′
 reserves-to st e st′ true l n bs k mut (p, q) = subst Lines-keep (sym q) e
 reserves-to st e st′ false l n bs k mut d =
     subst Lines-keep (sym (d .is)) (put-keeps (with-bytes (with-meaning st (d .meaning)) (d .bytes)) (relocated l (d .block) (round-up (st .meaning .base + d .block .place) (l .claim)) _)

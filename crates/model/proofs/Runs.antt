@@ -18,6 +18,7 @@ use Rattle.model.specs.Pedigree.{Table, feed, key-of, row}
 use Rattle.model.specs.Runs.{In, New, Reached, Sound, Step, Store, World, here, next, start, there}
 use Rattle.model.proofs.Calls.{keeps}
 use Rattle.model.proofs.Checks.{held, passed}
+use Rattle.model.proofs.Empties.{Named, named-on}
 use Rattle.model.proofs.Invariant.{Inv}
 use Rattle.model.proofs.Keyed.{find-nil}
 use Rattle.model.proofs.Lines.{Lines-keep, kept-on}
@@ -47,7 +48,7 @@ abbrev pub Inv-of : Store → Type 0
 Inv-of s = Inv (s .state) (s .table)
 
 abbrev pub Holds : Store → Type 0
-Holds s = Inv-of s × Lines-keep (s .state)
+Holds s = Inv-of s × Lines-keep (s .state) × Named (s .state)
 
 new-inv : (s : Store) → New s → Inv-of s
 new-inv s n = record {
@@ -64,9 +65,12 @@ new-inv s n = record {
 new-lines : (s : Store) → New s → Lines-keep (s .state)
 new-lines s n = (subst (All Kept-line) (sym (n .lines)) tt, record { begun = omega (arith, n .first); unspent = omega (arith, n .first); few = omega (arith, ap length (n .lines)) })
 
+new-named : (s : Store) → New s → Named (s .state)
+new-named s n = record { below = λ t l e. absurd (never (line-none (s .state) t (n .lines)) e); alone = λ a t l m d e f h q. absurd (never (line-none (s .state) a (n .lines)) e) }
+
 all-new : (w : World) → All New w → All Holds w
 all-new [] n = tt
-all-new (s ∷ ss) n = ((new-inv s (n .0), new-lines s (n .0)), all-new ss (n .1))
+all-new (s ∷ ss) n = ((new-inv s (n .0), new-lines s (n .0), new-named s (n .0)), all-new ss (n .1))
 
 pub holds-in : (w : World) → All Holds w → (s : Store) → In s w → Holds s
 holds-in [] g s i = absurd i
@@ -77,8 +81,12 @@ pub lines-answered : (st : State) → Lines-keep st → (extent : ℕ) (c : Call
 lines-answered st e extent c (refused n) st′ s (p, q) = subst Lines-keep (sym q) e
 lines-answered st e extent c (granted g) st′ s (p, d) = kept-on st e st′ extent c g s (passed (checks st extent c) p) d
 
+named-answered : (st : State) (tb : Table) → Inv st tb → Lines-keep st → Named st → (extent : ℕ) (c : Call) (a : Answer) (st′ : State) → Sound c → Answers st extent c a st′ → Named st′
+named-answered st tb inv each k extent c (refused n) st′ s (p, q) = subst Named (sym q) k
+named-answered st tb inv each k extent c (granted g) st′ s (p, d) = named-on st tb inv each k st′ extent c g s (passed (checks st extent c) p) d
+
 stepped : (w w′ : World) → Step w w′ → All Holds w → All Holds w′
-stepped w w′ (here {s = s} extent c a st′ k x) g = ((answered (s .state) (s .table) (g .0 .0) (g .0 .1) extent c a st′ k x, lines-answered (s .state) (g .0 .1) extent c a st′ k x), g .1)
+stepped w w′ (here {s = s} extent c a st′ k x) g = ((answered (s .state) (s .table) (g .0 .0) (g .0 .1) extent c a st′ k x, lines-answered (s .state) (g .0 .1) extent c a st′ k x, named-answered (s .state) (s .table) (g .0 .0) (g .0 .1) (g .0 .2) extent c a st′ k x), g .1)
 stepped w w′ (there {ss = ss} {ss′ = ss′} x) g = (g .0, stepped ss ss′ x (g .1))
 
 pub reached-holds : (w : World) → Reached w → All Holds w

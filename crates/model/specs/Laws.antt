@@ -62,12 +62,12 @@ Lines-law =
     (w : World) → Reached w → (s : Store) → In s w
     → (length (s .state .lines) ≤ line-limit) × ((n : ℕ) (l : Line) → look-up n (s .state) ≡ Some l → Kept (s .state .meaning .base) l)
 
--- a mutable handle is alone on its block
+-- a mutable handle is alone on its backing
 abbrev pub Alone-law : Type 0
 Alone-law =
     (w : World) → Reached w → (s : Store) → In s w
-    → (m n : ℕ) (k l : Line) (b : Block) → (n ≡ m → ⊥) → look-up m (s .state) ≡ Some k → look-up n (s .state) ≡ Some l
-    → block-of (k .backing) ≡ Some b → block-of (l .backing) ≡ Some b → k .mutable ≡ false
+    → (m n : ℕ) (k l : Line) → (n ≡ m → ⊥) → look-up m (s .state) ≡ Some k → look-up n (s .state) ≡ Some l
+    → one-backing (k .backing) (l .backing) ≡ true → k .mutable ≡ false
 
 -- a part that a store shows: the read is granted, the handle's row is r, and the part's bytes are xs
 pub record Shows (s : Store) (n : ℕ) (h : Handle) (r : Row) (xs : List ℕ) : Type 0 where
