@@ -1,0 +1,5 @@
+pub mod Groups
+pub mod Fixing
+pub mod Ties
+pub mod Edits
+pub mod Releases

@@ -1,0 +1,5 @@
+pub mod Limits
+pub mod Results
+pub mod Entry
+pub mod View
+pub mod Giving
