@@ -13,7 +13,8 @@ use Rattle.allocation.specs.declared.fault.Fault.{Fault}
 use Rattle.allocation.specs.declared.fault.Fault.the-variants.{Alone}
 use Rattle.allocation.specs.declared.fault.Refusal.the-variants.{RegionDiffers, UnknownHandle, NoHandleLeft}
 use Rattle.model.specs.declared.line.Handle.{Handle}
-use Rattle.model.specs.Book.{State, known}
+use Rattle.model.specs.declared.line.Line.{Line}
+use Rattle.model.specs.Book.{State, agrees, known, look-up}
 use Rattle.model.specs.Calls.{Call}
 use Rattle.model.specs.Checks.{Check, Brings, refusal, brings, strangers, full, own, checks}
 use Rattle.model.proofs.Checks.{passed}
@@ -76,3 +77,25 @@ long-by st e = eqb-true (length (st .bytes)) (st .meaning .extent) (not-false (e
 -- the handle is known
 pub known-by : (st : State) (h : Handle) → refusal (entry st h) ≡ None → not (known st h) ≡ false
 known-by st h e = passed (entry st h) e .1 .0
+
+-- another region
+pub other-region : (st : State) (h : Handle) (f : Fault) → refusal (region-check st) ≡ Some f → refusal (entry st h) ≡ Some f
+other-region st h f e = stops (region-check st) ((not (known st h), Alone UnknownHandle) ∷ []) f e
+
+-- past the region, the handle is a stranger or is known
+pub strange : (st : State) (h : Handle) → refusal (region-check st) ≡ None → known st h ≡ false → refusal (entry st h) ≡ Some (Alone UnknownHandle)
+strange st h e k = passes (region-check st) ((not (known st h), Alone UnknownHandle) ∷ []) e ∙ rw k
+
+pub enters : (st : State) (h : Handle) → refusal (region-check st) ≡ None → known st h ≡ true → refusal (entry st h) ≡ None
+enters st h e k = passes (region-check st) ((not (known st h), Alone UnknownHandle) ∷ []) e ∙ rw k
+
+pub stranger-none : (st : State) (h : Handle) → look-up (h .serial) st ≡ None → known st h ≡ false
+stranger-none st h e = go (eqb (h .store) (st .number)) (look-up (h .serial) st) e
+  where
+    go : (b : Bool) (o : Option Line) → o ≡ None → cond b (agrees h o) false ≡ false
+    go true None q = refl
+    go true (Some l) q = let z : _≡_ {A = ℕ} 0 1 = cc in absurd (omega arith)
+    go false o q = refl
+
+pub known-line : (st : State) (h : Handle) (l : Line) → look-up (h .serial) st ≡ Some l → known st h ≡ cond (eqb (h .store) (st .number)) (agrees h (Some l)) false
+known-line st h l e = ap (λ (o : Option Line). cond (eqb (h .store) (st .number)) (agrees h o) false) e

@@ -4,8 +4,10 @@ use mathlib.Core.List.{List, [], _∷_}
 use mathlib.Core.Path.{_≡_, refl, sym, ap, subst, _∙_}
 use Prim.Native.Nat.{ℕ, _≤_, _^_}
 use native.Mathlib.Omega.{arith}
-use lib.ListN.{length, replicate}
+use lib.Dec.{leb}
+use lib.ListN.{length}
 use Rattle.std.specs.declared.option.Option.the-variants.{Some, None}
+use Rattle.std.proofs.shelf.Tests.{leb-true, not-true}
 use Rattle.allocation.specs.declared.block.Block.{Block}
 use Rattle.allocation.specs.Faults.{any-block}
 use Rattle.allocation.specs.Meaning.{Among, Fixed, Lawful, Meaning}
@@ -20,7 +22,7 @@ use Rattle.model.proofs.KeepsSure.{Well, keeps-sure, sure-well}
 use Rattle.model.proofs.Shapes.{never}
 use Rattle.model.proofs.Strip.{strip}
 use Rattle.ledger.specs.Entry.{Ready}
-use Rattle.ledger.specs.Limits.{Limits}
+use Rattle.ledger.specs.Limits.{Limits, in-limits, serves, least-base, greatest-base, least-extent, greatest-extent}
 use Rattle.ledger.specs.Results.{Grants}
 use Rattle.ledger.proofs.Fixing.{fixed-by}
 
@@ -43,17 +45,17 @@ module _ (st : State) (p : Plain) (r : Ready st p) where
   limited = subst Limits (sym (r .tie)) (r .limits)
 
   -- the fields after a call
-  pub after : (c : Call) (s : ℕ) (st′ : State) (p′ : Plain) → Sound c → Grants st c s st′ → plain-of (st′ .meaning) ≡ p′ → ∥ Sure (st′ .next) (st′ .lines) p′ ∥₁ × Limits p′ × Unit {0}
+  pub after : (c : Call) (s : ℕ) (st′ : State) (p′ : Plain) → Sound c → Grants st c s st′ → plain-of (st′ .meaning) ≡ p′ → ∥ Sure (st′ .next) (st′ .lines) p′ ∥₁ × (Limits p′ × Unit {0})
   after c s st′ p′ sound q e =
       let f : Fixed (st .meaning) (st′ .meaning) = fixed-by st (length (st .bytes)) c (granted (q .0)) st′ (q .2) in
       let l : Limits (plain-of (st′ .meaning)) = (omega (arith, limited .0, f .base), omega (arith, limited .1, f .base), omega (arith, limited .2, f .extent), omega (arith, limited .3, f .extent)) in
-      (∣ subst (Sure (st′ .next) (st′ .lines)) e (keeps-sure st (length (st .bytes)) c (granted (q .0)) st′ (r .lawful) refl sound (q .2) (r .sure)) ∣₁, subst Limits e l, tt)
+      (∣ subst (Sure (st′ .next) (st′ .lines)) e (keeps-sure st (length (st .bytes)) c (granted (q .0)) st′ (r .lawful) refl sound (q .2) (r .sure)) ∣₁, (subst Limits e l, tt))
 
   -- nothing changed but, perhaps, the value that is held
-  pub same : (m : Meaning) (p′ : Plain) → m ≡ st .meaning → plain-of m ≡ p′ → ∥ Sure (st .next) (st .lines) p′ ∥₁ × Limits p′ × Unit {0}
+  pub same : (m : Meaning) (p′ : Plain) → m ≡ st .meaning → plain-of m ≡ p′ → ∥ Sure (st .next) (st .lines) p′ ∥₁ × (Limits p′ × Unit {0})
   same m p′ e tie′ =
       let q : p ≡ p′ = sym (r .tie) ∙ ap plain-of (sym e) ∙ tie′ in
-      (∣ subst (Sure (st .next) (st .lines)) (r .tie ∙ q) (r .sure) ∣₁, subst Limits q (r .limits), tt)
+      (∣ subst (Sure (st .next) (st .lines)) (r .tie ∙ q) (r .sure) ∣₁, (subst Limits q (r .limits), tt))
 
 no-line : (s : ℕ) → find serial-of s [] ≡ None
 unfolding find
@@ -72,7 +74,7 @@ none-live [] e = refl
 none-live (b ∷ bs) e = absurd (mathlib.Core.Bool.true≢false e)
 
 -- the fields of a new store
-pub fresh : (m : Meaning) (p : Plain) (ls : List Line) → any-block (m .live) ≡ false → Limits (plain-of m) → p ≡ plain-of m → ls ≡ [] → ∥ Sure 1 ls p ∥₁ × Limits p × Unit {0}
+pub fresh : (m : Meaning) (p : Plain) (ls : List Line) → any-block (m .live) ≡ false → Limits (plain-of m) → p ≡ plain-of m → ls ≡ [] → ∥ Sure 1 ls p ∥₁ × (Limits p × Unit {0})
 fresh m p ls e lim q f = (subst (λ (zs : List Line). ∥ Sure 1 zs p ∥₁) (sym f) ∣ record {
   order = none-rising;
   counted = record { begun = omega arith; unspent = omega arith; few = omega arith };
@@ -81,4 +83,17 @@ fresh m p ls e lim q f = (subst (λ (zs : List Line). ∥ Sure 1 zs p ∥₁) (s
   held = λ s l b x y. absurd (never (no-line s) x);
   used = λ b x. absurd (no-block b (subst (Among b) (ap (λ z. z .live) q ∙ none-live (m .live) e) x));
   alone = λ s t l k b d x y g h. absurd (never (no-line s) x);
-} ∣₁, subst Limits (sym q) lim, tt)
+} ∣₁, (subst Limits (sym q) lim, tt))
+
+both : (a b : Bool) → (a && b) ≡ true → (a ≡ true) × (b ≡ true)
+both true b e = (refl, e)
+both false b e = absurd (mathlib.Core.Bool.false≢true e)
+
+-- what was asked of the allocator before the store was opened
+pub served : (m : Meaning) → serves m ≡ true → (any-block (m .live) ≡ false) × Limits (plain-of m)
+served m e =
+    let a = both (in-limits (m .base) (m .extent)) (not (any-block (m .live))) e in
+    let b = both (leb least-base (m .base)) (leb (m .base) greatest-base && (leb least-extent (m .extent) && leb (m .extent) greatest-extent)) (a .0) in
+    let c = both (leb (m .base) greatest-base) (leb least-extent (m .extent) && leb (m .extent) greatest-extent) (b .1) in
+    let d = both (leb least-extent (m .extent)) (leb (m .extent) greatest-extent) (c .1) in
+    (not-true (any-block (m .live)) (a .1), (leb-true least-base (m .base) (b .0), leb-true (m .base) greatest-base (c .0), leb-true least-extent (m .extent) (d .0), leb-true (m .extent) greatest-extent (d .1)))

@@ -15,7 +15,7 @@ use crate::spot::Spot;
 use allocation::allocation::Allocator;
 use allocation::fault::Fault;
 use allocation::fault::Refusal;
-use book::lines::agrees;
+use book::lines::knows;
 use held::passing::HeldAllocator;
 use model::line::Handle;
 
@@ -48,14 +48,11 @@ impl<B: Allocator> Ledger<B> {
             (λ f. refusal (entry (state (B·Allocator .meaning) (now (self .entry)) (now (region .entry))) h) ≡ Some f) ⌝ }
     {
         self.knows_region(region)?;
-        if h.store != self.number {
-            return Err(Fault::Alone(Refusal::UnknownHandle));
-        }
         let Some(place) = self.book.position(h.serial) else {
             return Err(Fault::Alone(Refusal::UnknownHandle));
         };
         let line = self.book.line(place);
-        if !agrees(h, line) {
+        if !knows(self.number, h, line) {
             return Err(Fault::Alone(Refusal::UnknownHandle));
         }
         Ok(Spot { place, line })

@@ -4,33 +4,13 @@
 ghost use lib.ListN.{length};
 ghost use mathlib.Core.Path.{_≡_};
 ghost use Rattle.ledger.specs.Giving.{give-fault};
-ghost use Rattle.model.specs.Book.{block-of};
-ghost use Rattle.model.specs.Effects.{block-left, Gives-back};
+ghost use Rattle.model.specs.Effects.{Gives-back};
 ghost use Rattle.std.specs.declared.option.Option.the-variants.{Some};
 ghost use Rattle.std.specs.Results.{Cases};
 use allocation::allocation::Allocation;
 use allocation::allocation::Allocator;
 use allocation::block::Block;
 use allocation::fault::Fault;
-use model::line::Backing;
-use model::line::Line;
-
-// The block of a backing.
-pub fn block_of(backing: Backing) -> Option<Block>
-    ensures { λ r. ⌜ r ≡ block-of backing ⌝ }
-{
-    match backing {
-        Backing::Owned(block) => Some(block),
-        _ => None,
-    }
-}
-
-// The block that a line leaves with no handle on it.
-pub fn block_left(shared: bool, line: Line) -> Option<Block>
-    ensures { λ r. ⌜ r ≡ block-left shared line ⌝ }
-{
-    if shared { None } else { block_of(line.backing) }
-}
 
 // Gives a block back, if there is one.
 pub fn give_back<B: Allocator>(

@@ -4,11 +4,11 @@
 ghost use Rattle.ledger.specs.Results.{Done};
 ghost use Rattle.ledger.specs.View.{state};
 ghost use Rattle.model.specs.Calls.{Release};
-use crate::giving::block_left;
 use crate::giving::give_back;
 use crate::ledger::Ledger;
 use allocation::allocation::Allocator;
 use allocation::fault::Fault;
+use book::lines::block_left;
 use held::passing::HeldAllocator;
 use model::line::Handle;
 
