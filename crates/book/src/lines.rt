@@ -21,13 +21,6 @@ pub fn agrees(h: Handle, l: Line) -> bool
     l.mutable == h.mutable && l.kind.width == h.kind.width && l.kind.align == h.kind.align
 }
 
-// Whether a store of this number knows the handle by this line of its book.
-pub fn knows(number: u32, h: Handle, l: Line) -> bool
-    ensures { λ r. ⌜ r ≡ cond (eqb (h .store) number) (agrees h (Some l)) false ⌝ }
-{
-    h.store == number && agrees(h, l)
-}
-
 // Whether two handles with these backings are on one backing.
 pub fn one_backing(b: Backing, c: Backing) -> bool
     ensures { λ r. ⌜ r ≡ one-backing b c ⌝ }

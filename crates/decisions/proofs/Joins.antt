@@ -1,24 +1,21 @@
 -- The checks of each call as the groups that the code decides one after another.
-use mathlib.Core.Bool.{Bool, true, false, cond, not}
+use mathlib.Core.Bool.{Bool, true, false, cond}
 use mathlib.Core.List.{List, [], _∷_, _++_}
-use mathlib.Core.Path.{_≡_, refl, ap}
+use mathlib.Core.Path.{_≡_, refl, sym, ap, _∙_}
 use Prim.Native.Nat.{ℕ, _+_, _*_, max}
 use native.Mathlib.Omega.{arith}
 use lib.ListN.{length}
-use Rattle.std.specs.declared.option.Option.{Option}
 use Rattle.std.specs.declared.option.Option.the-variants.{Some, None}
 use Rattle.allocation.specs.declared.fault.Fault.{Fault}
-use Rattle.allocation.specs.declared.fault.Fault.the-variants.{Alone}
-use Rattle.allocation.specs.declared.fault.Refusal.the-variants.{NoHandleLeft}
 use Rattle.allocation.specs.Meaning.{Meaning}
 use Rattle.model.specs.declared.line.Bound.{Bound}
 use Rattle.model.specs.declared.line.Handle.{Handle}
 use Rattle.model.specs.declared.line.Kind.{Kind}
 use Rattle.model.specs.declared.line.Line.{Line}
-use Rattle.model.specs.Book.{State, line-limit, line, shared-by}
+use Rattle.model.specs.Book.{State, line, shared-by}
 use Rattle.model.specs.Calls.{WithCapacity, Zeroed, CopyFrom, EmptyShared, Set, FromBytes, TryIntoMut, EnsureAligned}
-use Rattle.model.specs.Checks.{Check, refusal, full, block-checks, enough, wanted-request, reserve-checks, begin, finish, slice-checks, own}
-use Rattle.decisions.specs.Groups.{handle-check, below-kind, size-checks, grant-check, growth-checks, room-check, range-checks, placing-checks, aligned-checks, regroup-checks, index-check, shared-check}
+use Rattle.model.specs.Checks.{Check, refusal, block-checks, enough, reserve-checks, begin, finish, slice-checks, own}
+use Rattle.decisions.specs.Groups.{below-kind, size-checks, grant-check, growth-checks, room-check, range-checks, placing-checks, aligned-checks, regroup-checks, index-check, shared-check}
 
 -- a group that refuses nothing leaves the refusal to the next, and one that refuses has the word
 pub passes : (xs ys : List Check) → refusal xs ≡ None → refusal (xs ++ ys) ≡ refusal ys
@@ -60,10 +57,6 @@ copy-from-own st k mutable vs a p = refl
 pub empty-shared-own : (st : State) (k : Kind) (a : ℕ) → own st (EmptyShared k a) ≡ below-kind k a
 empty-shared-own st k a = refl
 
--- a further handle
-pub full-check : (st : State) → (full st, Alone NoHandleLeft) ∷ [] ≡ handle-check (lib.Dec.leb line-limit (length (st .lines))) (st .next)
-full-check st = refl
-
 -- reserving, with enough room and without
 pub reserve-enough : (m : Meaning) (l : Line) (more : ℕ) → enough l more ≡ true → refusal (reserve-checks m l more) ≡ None
 reserve-enough m l more e = rw e
@@ -74,6 +67,12 @@ reserve-grows m l more e = rw e
 -- slices
 pub slice-groups : (l : Line) (first last : Bound) (a : ℕ) → slice-checks l first last a ≡ range-checks first last (l .len) ++ placing-checks l (begin first) (finish last (l .len)) a
 slice-groups l first last a = refl
+
+pub slice-passes : (l : Line) (first last : Bound) (a b e : ℕ) → refusal (range-checks first last (l .len)) ≡ None → b ≡ begin first → e ≡ finish last (l .len) → refusal (slice-checks l first last a) ≡ refusal (placing-checks l b e a)
+slice-passes l first last a b e p eb ee = passes (range-checks first last (l .len)) (placing-checks l (begin first) (finish last (l .len)) a) p ∙ ap (λ n. refusal (placing-checks l n (finish last (l .len)) a)) (sym eb) ∙ ap (λ n. refusal (placing-checks l b n a)) (sym ee)
+
+pub slice-stops : (l : Line) (first last : Bound) (a : ℕ) (f : Fault) → refusal (range-checks first last (l .len)) ≡ Some f → refusal (slice-checks l first last a) ≡ Some f
+slice-stops l first last a f e = stops (range-checks first last (l .len)) (placing-checks l (begin first) (finish last (l .len)) a) f e
 
 -- the others
 pub from-bytes-own : (st : State) (h : Handle) (k : Kind) (a : ℕ) → own st (FromBytes h k a) ≡ regroup-checks (line st h) k a

@@ -5,22 +5,14 @@ use Prim.Native.Nat.{ℕ, _+_, _*_, _%_}
 use lib.Dec.{eqb, ltb, leb}
 use Rattle.allocation.specs.Alignments.{greatest-size}
 use Rattle.allocation.specs.declared.fault.Fault.the-variants.{Alone}
-use Rattle.allocation.specs.declared.fault.Refusal.the-variants.{RegionDiffers, NoHandleLeft, BelowKindAlignment, Overflow, LayoutTooLarge, BoundOverflow, RangeReversed, RangeBeyondLength, OffsetUnaligned, StartUnaligned, PartialElement, IndexBeyondLength, BackingShared}
+use Rattle.allocation.specs.declared.fault.Refusal.the-variants.{BelowKindAlignment, Overflow, LayoutTooLarge, BoundOverflow, RangeReversed, RangeBeyondLength, OffsetUnaligned, StartUnaligned, PartialElement, IndexBeyondLength, BackingShared}
 use Rattle.allocation.specs.Meaning.{Meaning}
-use Rattle.model.specs.Book.{serial-limit}
 use Rattle.model.specs.Checks.{Check, overflows, request-for, not-granted, wanted-request, room-granted, begin, finish, begin-overflows, finish-overflows, is-aligned}
 use Rattle.model.specs.declared.line.Bound.{Bound}
 use Rattle.model.specs.declared.line.Kind.{Kind}
 use Rattle.model.specs.declared.line.Line.{Line}
 
--- the region that is brought has n bytes
-abbrev pub region-check : ℕ → ℕ → List Check
-region-check n extent = (not (eqb n extent), Alone RegionDiffers) ∷ []
-
--- a further handle is made
-abbrev pub handle-check : Bool → ℕ → List Check
-handle-check full next = (full || leb serial-limit next, Alone NoHandleLeft) ∷ []
-
+-- an alignment for elements of a kind
 abbrev pub below-kind : Kind → ℕ → List Check
 below-kind k a = (ltb a (k .align), Alone BelowKindAlignment) ∷ []
 

@@ -8,7 +8,7 @@ ghost use Prim.Native.Nat.{_+_, _*_, _^_, _≤_, _<_};
 ghost use Rattle.allocation.specs.Asked.{asked};
 ghost use Rattle.allocation.specs.declared.fault.Fault.the-variants.{Alone};
 ghost use Rattle.allocation.specs.declared.fault.Refusal.the-variants.{BoundOverflow};
-ghost use Rattle.decisions.specs.Groups.{region-check, handle-check, below-kind, too-large, size-checks, growth-checks, range-checks, misplaced, placing-checks, start-check, aligned-checks, regroup-checks, index-check, shared-check};
+ghost use Rattle.decisions.specs.Groups.{below-kind, too-large, size-checks, growth-checks, range-checks, misplaced, placing-checks, start-check, aligned-checks, regroup-checks, index-check, shared-check};
 ghost use Rattle.model.specs.Checks.{refusal, overflows, request-for, wanted-bytes, wanted-request, begin, finish, begin-overflows, finish-overflows, slice-checks};
 ghost use Rattle.std.specs.declared.option.Option.the-variants.{Some, None};
 ghost use Rattle.std.specs.Options.{Cases as BySome};
@@ -23,33 +23,6 @@ use allocation::layout::Layout;
 use model::line::Bound;
 use model::line::Kind;
 use model::line::Line;
-
-// The first serial that no handle gets.
-const SERIAL_LIMIT: u64 = 1 << 32;
-
-// The region that is brought has the agreed length.
-pub fn same_region(n: usize, extent: usize) -> Result<(), Fault>
-    ensures { λ r. ⌜ Cases r
-        (λ _. refusal (region-check n extent) ≡ None)
-        (λ f. refusal (region-check n extent) ≡ Some f) ⌝ }
-{
-    if n != extent {
-        return Err(Fault::Alone(Refusal::RegionDiffers));
-    }
-    Ok(())
-}
-
-// A further handle can be made: there is room for a line, and a serial is left.
-pub fn handle_left(full: bool, next: u64) -> Result<(), Fault>
-    ensures { λ r. ⌜ Cases r
-        (λ _. refusal (handle-check full next) ≡ None)
-        (λ f. refusal (handle-check full next) ≡ Some f) ⌝ }
-{
-    if full || next >= SERIAL_LIMIT {
-        return Err(Fault::Alone(Refusal::NoHandleLeft));
-    }
-    Ok(())
-}
 
 // The alignment is at least that of the kind.
 pub fn fits_kind(kind: Kind, claim: usize) -> Result<(), Fault>
@@ -85,6 +58,16 @@ pub fn block_layout(width: usize, count: usize, m: usize) -> Result<Layout, Faul
         return Err(Fault::Alone(Refusal::Overflow));
     };
     layout_of(size)
+}
+
+// A making: the layout of its block, where the alignment fits the kind.
+pub fn making(kind: Kind, count: usize, claim: usize, m: usize) -> Result<Layout, Fault>
+    ensures { λ r. ⌜ Cases r
+        (λ l. (asked l ≡ request-for (count * kind .width + m)) × (refusal (below-kind kind claim ++ size-checks (count * kind .width + m)) ≡ None))
+        (λ f. refusal (below-kind kind claim ++ size-checks (count * kind .width + m)) ≡ Some f) ⌝ }
+{
+    fits_kind(kind, claim)?;
+    block_layout(kind.width, count, m)
 }
 
 // The bytes of a line's elements and of more behind them, if they fit 64 bits.
@@ -200,6 +183,18 @@ pub fn slice_claims(line: Line, range: Range, claim: usize) -> Result<(), Fault>
         return Err(Fault::Alone(Refusal::StartUnaligned));
     }
     Ok(())
+}
+
+// A slice between two bounds may be made, with the alignment that it claims; then its range.
+pub fn slices(line: Line, first: Bound, last: Bound, claim: usize) -> Result<Range, Fault>
+    requires { ⌜ line .start + line .len * line .kind .width < 2 ^ 64 ⌝ }
+    ensures { λ r. ⌜ Cases r
+        (λ e. (e .begin ≡ begin first) × (e .end ≡ finish last (line .len)) × (line .start + e .begin * line .kind .width < 2 ^ 64) × (refusal (slice-checks line first last claim) ≡ None))
+        (λ f. refusal (slice-checks line first last claim) ≡ Some f) ⌝ }
+{
+    let range = range_of(first, last, line.len)?;
+    slice_claims(line, range, claim)?;
+    Ok(range)
 }
 
 // The start is a multiple of the alignment.
