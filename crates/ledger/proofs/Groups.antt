@@ -12,6 +12,7 @@ use Rattle.std.proofs.shelf.Tests.{eqb-true, not-false}
 use Rattle.allocation.specs.declared.fault.Fault.{Fault}
 use Rattle.allocation.specs.declared.fault.Fault.the-variants.{Alone}
 use Rattle.allocation.specs.declared.fault.Refusal.the-variants.{RegionDiffers, UnknownHandle, NoHandleLeft}
+use Rattle.decisions.proofs.Joins.{passes, stops}
 use Rattle.model.specs.declared.line.Handle.{Handle}
 use Rattle.model.specs.declared.line.Line.{Line}
 use Rattle.model.specs.Book.{State, agrees, known, look-up}
@@ -20,24 +21,8 @@ use Rattle.model.specs.Checks.{Check, Brings, refusal, brings, strangers, full,
 use Rattle.model.proofs.Checks.{passed}
 use Rattle.ledger.specs.Entry.{region-check, entry, handle-check, opening}
 
-pub passes : (xs ys : List Check) → refusal xs ≡ None → refusal (xs ++ ys) ≡ refusal ys
-passes [] ys e = refl
-passes (x ∷ xs) ys e = go (x .0) e (passes xs ys)
-  where
-    go : (b : Bool) → cond b (Some (x .1)) (refusal xs) ≡ None → (refusal xs ≡ None → refusal (xs ++ ys) ≡ refusal ys) → cond b (Some (x .1)) (refusal (xs ++ ys)) ≡ refusal ys
-    go true q ih = let z : _≡_ {A = ℕ} 0 1 = cc in absurd (omega arith)
-    go false q ih = ih q
-
-pub stops : (xs ys : List Check) (f : Fault) → refusal xs ≡ Some f → refusal (xs ++ ys) ≡ Some f
-stops [] ys f e = let z : _≡_ {A = ℕ} 0 1 = cc in absurd (omega arith)
-stops (x ∷ xs) ys f e = go (x .0) e (stops xs ys f)
-  where
-    go : (b : Bool) → cond b (Some (x .1)) (refusal xs) ≡ Some f → (refusal xs ≡ Some f → refusal (xs ++ ys) ≡ Some f) → cond b (Some (x .1)) (refusal (xs ++ ys)) ≡ Some f
-    go true q ih = q
-    go false q ih = ih q
-
 -- behind the checks that all calls have
-abbrev behind : State → Brings → List Check → List Check
+abbrev pub behind : State → Brings → List Check → List Check
 behind st b rest =
     (not (eqb (length (st .bytes)) (st .meaning .extent)), Alone RegionDiffers)
     ∷ (not (b .fitting), Alone UnknownHandle)

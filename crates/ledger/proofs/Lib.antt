@@ -3,3 +3,4 @@ pub mod Fixing
 pub mod Ties
 pub mod Edits
 pub mod Releases
+pub mod Makes

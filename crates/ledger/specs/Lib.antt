@@ -3,3 +3,4 @@ pub mod Results
 pub mod Entry
 pub mod View
 pub mod Giving
+pub mod Making

@@ -2,11 +2,12 @@
 // The checks that all calls have: the region, the handle, and room for a new handle.
 ghost use lib.Dec.{eqb, leb};
 ghost use lib.ListN.{length};
+ghost use mathlib.Core.Bool.{cond, false};
 ghost use mathlib.Core.Path.{_≡_};
 ghost use Rattle.held.specs.Whole.{parts};
 ghost use Rattle.ledger.specs.Entry.{region-check, entry, handle-check, opening, Ready, Admitted, Free, Opened};
 ghost use Rattle.ledger.specs.View.{state};
-ghost use Rattle.model.specs.Book.{serial-limit};
+ghost use Rattle.model.specs.Book.{agrees, serial-limit};
 ghost use Rattle.model.specs.Checks.{refusal};
 ghost use Rattle.std.specs.declared.option.Option.the-variants.{Some, None};
 ghost use Rattle.std.specs.Results.{Cases};
@@ -15,15 +16,23 @@ use crate::spot::Spot;
 use allocation::allocation::Allocator;
 use allocation::fault::Fault;
 use allocation::fault::Refusal;
-use book::lines::knows;
+use book::lines::agrees;
 use held::passing::HeldAllocator;
 use model::line::Handle;
+use model::line::Line;
 
 // Whether all serials are spent.
 pub fn is_spent(next: u64) -> bool
     ensures { λ r. ⌜ r ≡ leb serial-limit next ⌝ }
 {
     next >= 1 << 32
+}
+
+// Whether the line is the handle's, in the store of that number.
+pub fn knows(number: u32, h: Handle, line: Line) -> bool
+    ensures { λ r. ⌜ r ≡ cond (eqb (h .store) number) (agrees h (Some line)) false ⌝ }
+{
+    h.store == number && agrees(h, line)
 }
 
 impl<B: Allocator> Ledger<B> {
