@@ -23,16 +23,16 @@ use Rattle.decisions.specs.Numbers.{Spaced, state-with}
 use Rattle.decisions.proofs.Bounds.{spaced-got}
 use Rattle.decisions.proofs.Joins.{passes, stops}
 use Rattle.model.specs.Book.{State}
-use Rattle.model.specs.Calls.{Call, Grant, giving}
+use Rattle.model.specs.Calls.{Call, CopyFrom, EmptyShared, Grant, giving}
 use Rattle.model.specs.Checks.{Check, refusal, brings, own, checks, request-for}
-use Rattle.model.specs.Effects.{add-line, with-bytes, with-meaning, Obtains, Made, Does, made, made-as, list-of}
+use Rattle.model.specs.Effects.{add-line, with-bytes, with-meaning, Obtains, Made, Does, made, made-as, list-of, unbacked-line, written-in}
 use Rattle.model.specs.Invariant.{Plain, plain-of}
 use Rattle.model.specs.Patterns.{joined, Even}
 use Rattle.model.specs.declared.line.Kind.{Kind}
 use Rattle.model.specs.declared.line.Line.{Line}
 use Rattle.model.proofs.Alignments.{alignment-one, max-one}
 use Rattle.model.proofs.Getting.{obtained}
-use Rattle.ledger.specs.Entry.{Ready, opening}
+use Rattle.ledger.specs.Entry.{Opened, Ready, opening}
 use Rattle.ledger.specs.Making.{asking, Fair, plan-checks, Planned, Writable}
 use Rattle.ledger.specs.Results.{Grants}
 use Rattle.ledger.specs.declared.plan.Plan.{Plan}
@@ -58,6 +58,15 @@ length-map f (x ∷ xs) = ap suc (length-map f xs)
 pub map-replicate : {X : Type 0} (f : X → List ℕ) (n : ℕ) (x : X) → map f (replicate n x) ≡ replicate n (f x)
 map-replicate f zero x = refl
 map-replicate f (suc n) x = ap (λ ys. f x ∷ ys) (map-replicate f n x)
+
+pub even-replicate : (w n : ℕ) (v : List ℕ) → length v ≡ w → Even w (replicate n v)
+unfolding Even
+even-replicate w zero v e = tt
+even-replicate w (suc n) v e = (e, even-replicate w n v e)
+
+pub length-replicate : {X : Type 0} (n : ℕ) (x : X) → length (replicate n x) ≡ n
+length-replicate zero x = refl
+length-replicate (suc n) x = ap suc (length-replicate n x)
 
 -- alignments are small
 pub alignment-high : {a : ℕ} → Is-alignment a → a ≤ 65536
@@ -109,18 +118,24 @@ module _ (st : State) (p : Plain) (k : Kind) (c claim preferred : ℕ) (plan : P
     makes mutable n writes does got m′ new ls xs free gets el en ex =
         let s : plan .serial ≡ st .next = pl .opened .free .next in
         let is-new : new ≡ made-as mutable (made st k claim (max claim preferred) n got) = el
-            ∙ ap (λ z. made-as mutable (made (state-with z (plan .base)) k claim (plan .m) n got)) s
-            ∙ ap (λ z. made-as mutable (made (state-with (st .next) z) k claim (plan .m) n got)) (pl .base)
-            ∙ ap (λ z. made-as mutable (made st k claim z n got)) (pl .m) in
+        ∙ ap (λ z. made-as mutable (made (state-with z (plan .base)) k claim (plan .m) n got)) s
+        ∙ ap (λ z. made-as mutable (made (state-with (st .next) z) k claim (plan .m) n got)) (pl .base)
+        ∙ ap (λ z. made-as mutable (made st k claim z n got)) (pl .m) in
         let is : over-next st ls m′ xs ≡ add-line (with-bytes (with-meaning st m′) (writes got)) (made-as mutable (made st k claim (max claim preferred) n got)) =
-            add-is st new ls m′ xs en ∙ ap (λ z. add-line (with-bytes (with-meaning st m′) z) new) ex ∙ ap (add-line (with-bytes (with-meaning st m′) (writes got))) is-new in
-        (giving (plan .serial) (list-of got), refl, (passing ∙ free, does (giving (plan .serial) (list-of got)) (over-next st ls m′ xs) (record {
-          got = got;
-          meaning = m′;
-          gets = gets-size got m′ gets;
-          grant = ap (λ z. giving z (list-of got)) s;
-          is = is;
-        })))
+        add-is st new ls m′ xs en ∙ ap (λ z. add-line (with-bytes (with-meaning st m′) z) new) ex ∙ ap (add-line (with-bytes (with-meaning st m′) (writes got))) is-new in (
+          giving (plan .serial) (list-of got),
+          refl,
+          (
+            passing ∙ free,
+            does (giving (plan .serial) (list-of got)) (over-next st ls m′ xs) (record {
+              got = got;
+              meaning = m′;
+              gets = gets-size got m′ gets;
+              grant = ap (λ z. giving z (list-of got)) s;
+              is = is;
+            }),
+          ),
+        )
 
 pub unplanned : (st : State) (k : Kind) (c claim m : ℕ) (call : Call) (f : Fault) (rest : List Check) → brings call ≡ bringing [] true → own st call ≡ plan-checks k c claim m ++ rest → refusal (opening st ++ plan-checks k c claim m) ≡ Some f → refusal (checks st (length (st .bytes)) call) ≡ Some f
 unplanned st k c claim m call f rest e o q = go (refusal (opening st)) refl
@@ -131,3 +146,36 @@ unplanned st k c claim m call f rest e o q = go (refusal (opening st)) refl
     go : (r : Option Fault) → refusal (opening st) ≡ r → refusal (checks st (length (st .bytes)) call) ≡ Some f
     go None r = all ∙ passes (opening st) (plan-checks k c claim m ++ rest) r ∙ stops (plan-checks k c claim m) rest f (sym (passes (opening st) (plan-checks k c claim m) r) ∙ q)
     go (Some x) r = all ∙ stops (opening st) (plan-checks k c claim m ++ rest) x r ∙ sym (stops (opening st) (plan-checks k c claim m) x r) ∙ q
+
+-- a making from values: as many patterns as elements
+module _ (st : State) (k : Kind) (mutable : Bool) (n claim preferred : ℕ) (vs : List (List ℕ)) (e : length vs ≡ n) where
+  abbrev call : Call
+  call = CopyFrom k mutable vs claim preferred
+
+  own-copy : own st call ≡ plan-checks k n claim (max claim preferred) ++ grant-check (st .meaning) n (n * k .width + max claim preferred)
+  own-copy = ap (λ z. plan-checks k z claim (max claim preferred) ++ grant-check (st .meaning) z (z * k .width + max claim preferred)) e
+
+  pub copy-unplanned : (f : Fault) → refusal (opening st ++ plan-checks k n claim (max claim preferred)) ≡ Some f → refusal (checks st (length (st .bytes)) call) ≡ Some f
+  copy-unplanned f q = unplanned st k n claim (max claim preferred) call f (grant-check (st .meaning) n (n * k .width + max claim preferred)) refl own-copy q
+
+  module _ (p : Plain) (plan : Plan) (pl : Planned st p k n claim preferred plan) where
+    pub copy-ungranted : (f : Fault) → refusal (asking (st .meaning) n (asked (plan .layout))) ≡ Some f → refusal (checks st (length (st .bytes)) call) ≡ Some f
+    copy-ungranted f q = ungranted st p k n claim preferred plan pl call refl own-copy f q
+
+    pub copy-made : (got : Option Block) (m′ : Meaning) (new : Line) (ls : List Line) (xs : List ℕ) → refusal (asking (st .meaning) n (asked (plan .layout))) ≡ None → Obtains (ltb 0 n) (st .meaning) (asked (plan .layout)) got m′
+        → new ≡ made-as mutable (made (state-with (plan .serial) (plan .base)) k claim (plan .m) n got) → ls ≡ st .lines ++ (new ∷ []) → xs ≡ written-in (plan .base) (plan .m) got (joined vs) (st .bytes)
+        → Grants st call (plan .serial) (over-next st ls m′ xs)
+    copy-made got m′ new ls xs free gets el en ex =
+        makes st p k n claim preferred plan pl call refl own-copy mutable n (λ got. written-in (st .meaning .base) (max claim preferred) got (joined vs) (st .bytes))
+        (λ g st′ d. subst (λ z. Made st k mutable z claim (max claim preferred) z (λ got. written-in (st .meaning .base) (max claim preferred) got (joined vs) (st .bytes)) g st′) (sym e) d)
+        got m′ new ls xs free gets el en
+        (ex ∙ ap (λ b. written-in b (plan .m) got (joined vs) (st .bytes)) (pl .base) ∙ ap (λ m. written-in (st .meaning .base) m got (joined vs) (st .bytes)) (pl .m))
+
+-- a shared handle without a backing
+pub empty-made : (st : State) (p : Plain) (k : Kind) (claim serial : ℕ) → Opened st p serial → (ls : List Line) (new : Line) → refusal (below-kind k claim) ≡ None → new ≡ unbacked-line serial k claim → ls ≡ st .lines ++ (new ∷ []) → Grants st (EmptyShared k claim) serial (over-next st ls (st .meaning) (st .bytes))
+unfolding with-bytes with-meaning
+empty-made st p k claim serial o ls new b e q = (
+  giving serial [],
+  refl,
+  (opened st (EmptyShared k claim) refl (o .passed) ∙ b, (ap (λ z. giving z []) (o .free .next), add-is st new ls (st .meaning) (st .bytes) q ∙ ap (add-line st) (e ∙ ap (λ z. unbacked-line z k claim) (o .free .next)))),
+)

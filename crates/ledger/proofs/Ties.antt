@@ -75,15 +75,18 @@ none-live (b ∷ bs) e = absurd (mathlib.Core.Bool.true≢false e)
 
 -- the fields of a new store
 pub fresh : (m : Meaning) (p : Plain) (ls : List Line) → any-block (m .live) ≡ false → Limits (plain-of m) → p ≡ plain-of m → ls ≡ [] → ∥ Sure 1 ls p ∥₁ × (Limits p × Unit {0})
-fresh m p ls e lim q f = (subst (λ (zs : List Line). ∥ Sure 1 zs p ∥₁) (sym f) ∣ record {
-  order = none-rising;
-  counted = record { begun = omega arith; unspent = omega arith; few = omega arith };
-  each = tt;
-  stands = λ s l x. absurd (never (no-line s) x);
-  held = λ s l b x y. absurd (never (no-line s) x);
-  used = λ b x. absurd (no-block b (subst (Among b) (ap (λ z. z .live) q ∙ none-live (m .live) e) x));
-  alone = λ s t l k b d x y g h. absurd (never (no-line s) x);
-} ∣₁, (subst Limits (sym q) lim, tt))
+fresh m p ls e lim q f = (
+  subst (λ (zs : List Line). ∥ Sure 1 zs p ∥₁) (sym f) ∣ record {
+    order = none-rising;
+    counted = record { begun = omega arith; unspent = omega arith; few = omega arith };
+    each = tt;
+    stands = λ s l x. absurd (never (no-line s) x);
+    held = λ s l b x y. absurd (never (no-line s) x);
+    used = λ b x. absurd (no-block b (subst (Among b) (ap (λ z. z .live) q ∙ none-live (m .live) e) x));
+    alone = λ s t l k b d x y g h. absurd (never (no-line s) x);
+  } ∣₁,
+  (subst Limits (sym q) lim, tt),
+)
 
 both : (a b : Bool) → (a && b) ≡ true → (a ≡ true) × (b ≡ true)
 both true b e = (refl, e)

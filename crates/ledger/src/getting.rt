@@ -18,9 +18,9 @@ use allocation::block::Block;
 use allocation::fault::Fault;
 use allocation::layout::Layout;
 use decisions::sizes::place_in;
+use element::Element;
 use element::writing::write_all;
 use element::writing::write_repeated;
-use element::Element;
 
 // Gets a block for so many elements; none for no elements.
 pub fn obtain<B: Allocator>(

@@ -121,7 +121,8 @@ impl<B: Allocator> Ledger<B> {
         let obtained = obtain_zeroed(&mut self.allocator, region, len, plan.layout);
         self.allocator.tell();
         let got = obtained?;
-        self.book.add(planned_line(plan, kind, mutable, claim, len, got));
+        self.book
+            .add(planned_line(plan, kind, mutable, claim, len, got));
         self.next += 1;
         Ok(plan.serial)
     }
