@@ -4,3 +4,6 @@ pub mod Ties
 pub mod Edits
 pub mod Releases
 pub mod Makes
+pub mod Movings
+pub mod Reserves
+pub mod Appends

@@ -18,7 +18,7 @@ use Rattle.model.specs.Calls.{Answer, Call, Grant, granted}
 use Rattle.model.specs.Invariant.{Plain, plain-of, Sure, Sure-of}
 use Rattle.model.specs.Keyed.{find, Rising}
 use Rattle.model.specs.Runs.{Sound}
-use Rattle.model.proofs.KeepsSure.{Well, keeps-sure, sure-well}
+use Rattle.model.proofs.KeepsSure.{Well, keeps-sure, sure-well, well-inv, well-on}
 use Rattle.model.proofs.Shapes.{never}
 use Rattle.model.proofs.Strip.{strip}
 use Rattle.ledger.specs.Entry.{Ready}
@@ -50,6 +50,13 @@ module _ (st : State) (p : Plain) (r : Ready st p) where
       let f : Fixed (st .meaning) (st′ .meaning) = fixed-by st (length (st .bytes)) c (granted (q .0)) st′ (q .2) in
       let l : Limits (plain-of (st′ .meaning)) = (omega (arith, limited .0, f .base), omega (arith, limited .1, f .base), omega (arith, limited .2, f .extent), omega (arith, limited .3, f .extent)) in
       (∣ subst (Sure (st′ .next) (st′ .lines)) e (keeps-sure st (length (st .bytes)) c (granted (q .0)) st′ (r .lawful) refl sound (q .2) (r .sure)) ∣₁, (subst Limits e l, tt))
+
+  -- what the fields give, after a call
+  pub ready-after : (c : Call) (s : ℕ) (st′ : State) (p′ : Plain) → Sound c → Grants st c s st′ → plain-of (st′ .meaning) ≡ p′ → Ready st′ p′
+  ready-after c s st′ p′ sound q e =
+      let w = well-inv st′ (well-on st (length (st .bytes)) c (granted (q .0)) st′ well sound (q .2)) in
+      let f = after c s st′ p′ sound q e in
+      readied st′ p′ (w .law) (w .long) (f .0) (f .1 .0) e
 
   -- nothing changed but, perhaps, the value that is held
   pub same : (m : Meaning) (p′ : Plain) → m ≡ st .meaning → plain-of m ≡ p′ → ∥ Sure (st .next) (st .lines) p′ ∥₁ × (Limits p′ × Unit {0})

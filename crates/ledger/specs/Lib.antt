@@ -4,3 +4,4 @@ pub mod Entry
 pub mod View
 pub mod Giving
 pub mod Making
+pub mod Moving
