@@ -7,3 +7,4 @@ pub mod Makes
 pub mod Movings
 pub mod Reserves
 pub mod Appends
+pub mod LineEdits

@@ -3,6 +3,7 @@
 // Works over src/buffer_mut.rs and src/buffer.rs of vortex-buffer 0.90.0.
 pub mod admitting;
 pub mod appending;
+pub mod editing;
 pub mod getting;
 pub mod giving;
 pub mod ledger;
