@@ -83,7 +83,7 @@ module _ (st : State) (p : Plain) (h : Handle) (n : ℕ) (spot : Spot) (mid : St
       let x : xs ≡ overwrite (l .start - mid .meaning .base + l .len * l .kind .width) (joined vs) (mid .bytes) = ex ∙ ap (λ b. overwrite (l .start - b + l .len * l .kind .width) (joined vs) (mid .bytes)) eb in
       let s : new .serial ≡ h .serial = ap (λ (z : Line). z .serial) el ∙ find-key Rattle.model.specs.Book.serial-of (h .serial) (mid .lines) l (a .found) in
       let is : over mid ls (mid .meaning) xs ≡ appended mid l vs = put-here mid (h .serial) (spot .place) (a .still .sure .order) (a .here) new ls (mid .meaning) xs s eq
-          ∙ ap (λ z. put-line (with-bytes mid z) new) x ∙ ap (put-line (with-bytes mid (overwrite (l .start - mid .meaning .base + l .len * l .kind .width) (joined vs) (mid .bytes)))) i in
+      ∙ ap (λ z. put-line (with-bytes mid z) new) x ∙ ap (put-line (with-bytes mid (overwrite (l .start - mid .meaning .base + l .len * l .kind .width) (joined vs) (mid .bytes)))) i in
       (a .grants .0, a .grants .1, (g .0, (mid, g .1 .0, g .1 .1, g .1 .2, is ∙ ap (λ z. appended mid z vs) (line-is mid h l (a .found)))))
 
 pub append-refused : (st : State) (h : Handle) (n : ℕ) (vs : List (List ℕ)) (f : Fault) (mid : State) → length vs ≡ n → Refuses st (Reserve h n) f mid → Refuses st (Append h vs) f mid

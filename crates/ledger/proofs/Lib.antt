@@ -8,3 +8,4 @@ pub mod Movings
 pub mod Reserves
 pub mod Appends
 pub mod LineEdits
+pub mod Copies

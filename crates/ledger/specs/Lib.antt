@@ -5,3 +5,4 @@ pub mod View
 pub mod Giving
 pub mod Making
 pub mod Moving
+pub mod Copying

@@ -17,10 +17,10 @@ use allocation::allocation::Allocator;
 use allocation::fault::Fault;
 use book::lines::with_len;
 use decisions::sizes::element_place;
+use element::Element;
 use element::writing::write_all;
 use element::writing::write_one;
 use element::writing::write_repeated;
-use element::Element;
 use held::passing::HeldAllocator;
 use model::line::Handle;
 use model::line::Line;
@@ -78,24 +78,23 @@ impl<B: Allocator> Ledger<B> {
     {
         let spot = self.make_room(region, h, values.len())?;
         write_all_behind(region, self.allocator.base(), spot.line, values);
-        self.book.put(spot.place, with_len(spot.line, spot.line.len + values.len()));
+        self.book.put(
+            spot.place,
+            with_len(spot.line, spot.line.len + values.len()),
+        );
         Ok(())
     }
 
     // Makes room, then writes the value.
-    pub fn push<K: Element>(
-        &mut self,
-        region: &mut [u8],
-        h: Handle,
-        value: &K,
-    ) -> Result<(), Fault>
+    pub fn push<K: Element>(&mut self, region: &mut [u8], h: Handle, value: &K) -> Result<(), Fault>
         requires mutable { ⌜ h .mutable ≡ true ⌝ }
         requires wide { ⌜ h .kind .width ≡ K·Element .width ⌝ }
         ensures { λ r. ⌜ Done (state (B·Allocator .meaning) (now (self .entry)) (now (region .entry))) (Append h (K·Element .pattern (now (value .entry)) ∷ [])) r (state (B·Allocator .meaning) (now (self .exit)) (now (region .exit))) ⌝ }
     {
         let spot = self.make_room(region, h, 1)?;
         write_one_behind(region, self.allocator.base(), spot.line, value);
-        self.book.put(spot.place, with_len(spot.line, spot.line.len + 1));
+        self.book
+            .put(spot.place, with_len(spot.line, spot.line.len + 1));
         Ok(())
     }
 
@@ -113,7 +112,8 @@ impl<B: Allocator> Ledger<B> {
     {
         let spot = self.make_room(region, h, n)?;
         write_repeated_behind(region, self.allocator.base(), spot.line, value, n);
-        self.book.put(spot.place, with_len(spot.line, spot.line.len + n));
+        self.book
+            .put(spot.place, with_len(spot.line, spot.line.len + n));
         Ok(())
     }
 }

@@ -25,8 +25,8 @@ use decisions::sizes::element_place;
 use decisions::sizes::from_bytes;
 use decisions::sizes::into_bytes;
 use decisions::sizes::unfrozen;
-use element::writing::write_one;
 use element::Element;
+use element::writing::write_one;
 use held::passing::HeldAllocator;
 use model::line::Handle;
 use model::line::Kind;
@@ -84,7 +84,8 @@ impl<B: Allocator> Ledger<B> {
     {
         let spot = self.admits(region, h)?;
         regroups(spot.line, kind, claim)?;
-        self.book.put(spot.place, from_bytes(spot.line, kind, claim));
+        self.book
+            .put(spot.place, from_bytes(spot.line, kind, claim));
         Ok(())
     }
 

@@ -3,6 +3,8 @@
 // Works over src/buffer_mut.rs and src/buffer.rs of vortex-buffer 0.90.0.
 pub mod admitting;
 pub mod appending;
+pub mod copy_plan;
+pub mod copying;
 pub mod editing;
 pub mod getting;
 pub mod giving;

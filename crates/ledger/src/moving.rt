@@ -32,12 +32,7 @@ pub fn copy_shown(region: &mut [u8], base: usize, line: Line, place: usize)
     ensures { λ _. ⌜ now (region .exit) ≡ overwrite place (shown base line (now (region .entry))) (now (region .entry)) ⌝ }
 {
     if let Some(_) = block_of(line.backing) {
-        move_within(
-            region,
-            line.start - base,
-            place,
-            line.len * line.kind.width,
-        );
+        move_within(region, line.start - base, place, line.len * line.kind.width);
     }
 }
 
@@ -102,11 +97,7 @@ pub fn relocate<B: Allocator>(
         (λ f. (moving-granted (B·Allocator .meaning (now (allocator .entry))) (asked layout) (block-of (line .backing)) ≡ false) × (f ≡ not-granted (asked layout))
         × (B·Allocator .meaning (now (allocator .exit)) ≡ B·Allocator .meaning (now (allocator .entry))) × (now (region .exit) ≡ now (region .entry))) ⌝ }
 {
-    match grows_from(
-        allocator.copies(),
-        layout.size(),
-        block_of(line.backing),
-    ) {
+    match grows_from(allocator.copies(), layout.size(), block_of(line.backing)) {
         Some(block) => grow_into(allocator, region, line, block, layout),
         None => take_new(allocator, region, line, layout),
     }

@@ -22,12 +22,7 @@ use model::line::Handle;
 
 impl<B: Allocator> Ledger<B> {
     // Makes room for more elements; then the handle's line as it is now.
-    pub fn make_room(
-        &mut self,
-        region: &mut [u8],
-        h: Handle,
-        more: usize,
-    ) -> Result<Spot, Fault>
+    pub fn make_room(&mut self, region: &mut [u8], h: Handle, more: usize) -> Result<Spot, Fault>
         requires mutable { ⌜ h .mutable ≡ true ⌝ }
         ensures { λ r. ⌜ Reserved (state (B·Allocator .meaning) (now (self .entry)) (now (region .entry))) (parts (now (self .entry) .allocator)) h more r (state (B·Allocator .meaning) (now (self .exit)) (now (region .exit))) (parts (now (self .exit) .allocator)) ⌝ }
     {

@@ -18,4 +18,3 @@ write-all-requires g c κs = let i = c .pre .inside (omega arith) in rw (sym (c 
 
 pub returns : need.returns
 returns g c = rw (sym (c .element-place .ensures)) (c .write-all .ensures)
-

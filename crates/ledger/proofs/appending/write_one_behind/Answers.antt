@@ -15,4 +15,3 @@ write-one-requires g c κs = let i = c .pre .inside (omega arith) in rw (sym (c 
 
 pub returns : need.returns
 returns g c = rw (sym (c .element-place .ensures)) (c .write-one .ensures)
-

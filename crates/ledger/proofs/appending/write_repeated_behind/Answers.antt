@@ -18,4 +18,3 @@ write-repeated-requires g c κs = let i = c .pre .inside (omega arith) in rw (sy
 
 pub returns : need.returns
 returns g c = rw (sym (c .element-place .ensures)) (c .write-repeated .ensures)
-
