@@ -9,3 +9,4 @@ pub mod Reserves
 pub mod Appends
 pub mod LineEdits
 pub mod Copies
+pub mod Hands
