@@ -1,0 +1,12 @@
+pub mod Groups
+pub mod Fixing
+pub mod Ties
+pub mod Edits
+pub mod Releases
+pub mod Makes
+pub mod Movings
+pub mod Reserves
+pub mod Appends
+pub mod LineEdits
+pub mod Copies
+pub mod Hands
