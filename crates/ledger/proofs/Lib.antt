@@ -10,3 +10,4 @@ pub mod Appends
 pub mod LineEdits
 pub mod Copies
 pub mod Hands
+pub mod Slices
