@@ -11,3 +11,4 @@ pub mod LineEdits
 pub mod Copies
 pub mod Hands
 pub mod Slices
+pub mod Shows
