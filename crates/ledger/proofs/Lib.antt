@@ -10,3 +10,5 @@ pub mod Appends
 pub mod LineEdits
 pub mod Copies
 pub mod Hands
+pub mod Slices
+pub mod Shows

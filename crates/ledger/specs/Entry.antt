@@ -2,7 +2,7 @@
 use mathlib.Core.Bool.{not}
 use mathlib.Core.List.{List, [], _∷_}
 use mathlib.Core.Path.{_≡_}
-use Prim.Native.Nat.{ℕ, _<_}
+use Prim.Native.Nat.{ℕ, _^_, _<_}
 use lib.Dec.{eqb}
 use lib.ListN.{length}
 use Rattle.std.specs.declared.option.Option.the-variants.{Some, None}
@@ -47,6 +47,7 @@ pub record Admitted (st : State) (p : Plain) (h : Handle) (spot : Spot) : Type 0
   pub passed : refusal (entry st h) ≡ None
   pub here : At (st .lines) (spot .place) (h .serial)
   pub found : look-up (h .serial) st ≡ Some (spot .line)
+  pub low : spot .line .start < 2 ^ 64
 
 -- there is room for a handle, and this is its serial
 pub record Free (st : State) (serial : ℕ) : Type 0 where

@@ -18,4 +18,5 @@ pub mod reading;
 pub mod refused;
 pub mod releasing;
 pub mod reserving;
+pub mod slicing;
 pub mod spot;

@@ -1,5 +1,6 @@
 use mathlib.Core.List.{[], _∷_}
 use mathlib.Core.Path.{_≡_, refl, sym, ap, _∙_}
+use native.Mathlib.Omega.{arith}
 use Rattle.std.specs.declared.option.Option.the-variants.{Some}
 use Rattle.std.proofs.shelf.Results.{err-from-errBy}
 use Rattle.book.specs.Held.{line-at}
@@ -41,4 +42,5 @@ returns g c =
       passed = enters st (c .args .h) (c .in-Continue-knows-region .ensures tt .0) (known-line st (c .args .h) (c .line-line .result) found ∙ sym (c .knows .ensures) ∙ c .if-not-knows .left);
       here = c .in-Some .ensures tt;
       found = found;
+      low = omega arith;
     }
