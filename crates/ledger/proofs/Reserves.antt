@@ -26,7 +26,7 @@ use Rattle.model.specs.declared.line.Line.{Line}
 use Rattle.model.proofs.Checks.{held}
 use Rattle.model.proofs.KeepsSure.{well-inv}
 use Rattle.model.proofs.Reserving.{reserved}
-use Rattle.model.proofs.LineLaw.{kept-at}
+use Rattle.model.proofs.Lines.{kept-at}
 use Rattle.ledger.specs.Entry.{Admitted, Ready}
 use Rattle.ledger.specs.Moving.{Movable, Moved, moving-granted, Roomy}
 use Rattle.ledger.specs.Results.{Grants}

@@ -8,8 +8,8 @@ use lib.Dec.{ltb}
 use lib.ListN.{length}
 use Rattle.std.specs.declared.option.Option.the-variants.{Some, None}
 use Rattle.allocation.specs.declared.fault.Fault.{Fault}
-use Rattle.decisions.specs.Numbers.{state-with}
-use Rattle.decisions.proofs.Bounds.{len-below}
+use Rattle.sizes.specs.Numbers.{state-with}
+use Rattle.sizes.proofs.Bounds.{len-below}
 use Rattle.model.specs.Book.{State, block-of, line}
 use Rattle.model.specs.Calls.{Claim, Slice, giving}
 use Rattle.model.specs.Checks.{refusal, brings, checks, begin, finish, claimed, slice-checks}

@@ -16,7 +16,6 @@ use crate::ledger::Ledger;
 use allocation::allocation::Allocator;
 use allocation::fault::Fault;
 use book::lines::with_len;
-use sizes::element_place;
 use element::Element;
 use element::writing::write_all;
 use element::writing::write_one;
@@ -24,6 +23,7 @@ use element::writing::write_repeated;
 use held::passing::HeldAllocator;
 use model::line::Handle;
 use model::line::Line;
+use sizes::element_place;
 
 // Writes values behind the last element of a line.
 pub fn write_all_behind<K: Element>(region: &mut [u8], base: usize, line: Line, values: &[K])

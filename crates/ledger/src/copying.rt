@@ -31,14 +31,14 @@ use book::lines::block_left;
 use book::lines::with_claim;
 use checks::block_layout;
 use checks::fits_kind;
+use held::passing::HeldAllocator;
+use model::line::Handle;
+use model::line::Line;
 use sizes::capacity_in;
 use sizes::copied_into;
 use sizes::is_aligned;
 use sizes::place_in;
 use sizes::unfrozen;
-use held::passing::HeldAllocator;
-use model::line::Handle;
-use model::line::Line;
 
 // Copies what the line shows to the first multiple of m in what was got.
 pub fn copy_in(region: &mut [u8], base: usize, line: Line, m: usize, got: Option<Block>)

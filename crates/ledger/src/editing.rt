@@ -21,15 +21,15 @@ use checks::index_within;
 use checks::regroups;
 use checks::stays_aligned;
 use checks::unshared;
-use sizes::element_place;
-use sizes::from_bytes;
-use sizes::into_bytes;
-use sizes::unfrozen;
 use element::Element;
 use element::writing::write_one;
 use held::passing::HeldAllocator;
 use model::line::Handle;
 use model::line::Kind;
+use sizes::element_place;
+use sizes::from_bytes;
+use sizes::into_bytes;
+use sizes::unfrozen;
 
 impl<B: Allocator> Ledger<B> {
     // Shortens the handle to n elements; to a greater length it does nothing.

@@ -17,10 +17,10 @@ use allocation::allocation::Allocator;
 use allocation::block::Block;
 use allocation::fault::Fault;
 use allocation::layout::Layout;
-use sizes::place_in;
 use element::Element;
 use element::writing::write_all;
 use element::writing::write_repeated;
+use sizes::place_in;
 
 // Gets a block for so many elements; none for no elements.
 pub fn obtain<B: Allocator>(

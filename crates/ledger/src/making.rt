@@ -32,11 +32,11 @@ use book::lines::made_as;
 use book::lines::unbacked_line;
 use checks::fits_kind;
 use checks::making;
-use sizes::made;
 use element::Element;
 use held::passing::HeldAllocator;
 use model::line::Kind;
 use model::line::Line;
+use sizes::made;
 
 // The line of a making with n elements in what was got.
 pub fn planned_line(

@@ -20,11 +20,11 @@ use allocation::block::Block;
 use allocation::fault::Fault;
 use allocation::layout::Layout;
 use book::lines::block_of;
+use model::line::Line;
+use region::move_within;
 use sizes::grown_place;
 use sizes::grows_from;
 use sizes::place_in;
-use model::line::Line;
-use region::move_within;
 
 // Copies what the line shows to a place of the region.
 pub fn copy_shown(region: &mut [u8], base: usize, line: Line, place: usize)

@@ -9,17 +9,17 @@ ghost use Rattle.model.specs.Book.{block-of, line};
 ghost use Rattle.model.specs.Calls.{Read};
 ghost use Rattle.model.specs.Checks.{refusal, checks};
 ghost use Rattle.model.specs.Invariant.{Sits};
-ghost use Rattle.model.specs.Reads.{bytes-of, shown-place};
+ghost use Rattle.model.specs.Reads.{slice-bytes, shown-place};
 ghost use Rattle.region.specs.Bytes.{part};
 ghost use Rattle.std.specs.declared.option.Option.the-variants.{Some, None};
 ghost use Rattle.std.specs.Results.{Cases};
 use crate::ledger::Ledger;
 use allocation::allocation::Allocator;
 use allocation::fault::Fault;
-use decisions::sizes::shown_place;
 use held::passing::HeldAllocator;
 use model::line::Handle;
 use model::line::Line;
+use sizes::shown_place;
 
 // The part of the region that a line shows.
 pub fn shown_in(region: &[u8], base: usize, line: Line) -> &[u8]
@@ -47,7 +47,7 @@ impl<B: Allocator> Ledger<B> {
     pub fn as_slice<'a>(&self, region: &'a [u8], h: Handle) -> Result<&'a [u8], Fault>
         ensures { λ r. ⌜ Cases r
             (λ s. (refusal (checks (state (B·Allocator .meaning) (now (self .entry)) (now (region .entry))) (length (now (region .entry))) (Read h)) ≡ None)
-            × (now s ≡ bytes-of (state (B·Allocator .meaning) (now (self .entry)) (now (region .entry))) h))
+            × (now s ≡ slice-bytes (state (B·Allocator .meaning) (now (self .entry)) (now (region .entry))) h))
             (λ f. refusal (checks (state (B·Allocator .meaning) (now (self .entry)) (now (region .entry))) (length (now (region .entry))) (Read h)) ≡ Some f) ⌝ }
     {
         let spot = self.admits(region, h)?;

@@ -15,10 +15,10 @@ use allocation::allocation::Allocator;
 use allocation::fault::Fault;
 use book::lines::relocated;
 use checks::room_for;
-use sizes::has_room;
-use sizes::round_up;
 use held::passing::HeldAllocator;
 use model::line::Handle;
+use sizes::has_room;
+use sizes::round_up;
 
 impl<B: Allocator> Ledger<B> {
     // Makes room for more elements; then the handle's line as it is now.

@@ -10,10 +10,10 @@ ghost use Rattle.model.specs.Calls.{Slice, Given, Inherited, Of-kind};
 use crate::ledger::Ledger;
 use allocation::allocation::Allocator;
 use allocation::fault::Fault;
-use decisions::checks::slices;
-use decisions::sizes::slice_line;
+use checks::slices;
 use model::line::Bound;
 use model::line::Handle;
+use sizes::slice_line;
 
 impl<B: Allocator> Ledger<B> {
     // A new handle on a range of the elements, with the claim of the handle.

@@ -61,11 +61,11 @@ pub returns : need.returns
 returns g c =
     let st : State = state (g .B·Allocator .meaning) (c .args .self .now) (c .args .region .now) in
     link.roomy-moved st (parts (c .args .self .now .allocator)) (c .args .h) (c .in-Continue-spot .spot) (c .in-Continue-spot .ensures tt) (c .args .more) (c .pre .mutable) (c .in-Continue-room .room .bytes) (c .base-base .result) (c .round-up-start .result) (asked (c .in-Continue-room .room .layout)) (c .in-Continue-block .block) (g .B·Allocator .meaning (c .relocate-moved-to .last .allocator .allocator)) (c .relocate-moved-to .last .region) (c .relocated-line .result) (lines-of (c .put .last .self)) (parts (c .relocate-moved-to .last .allocator))
-    (sym (c .if-has-room .ensures tt)) (c .in-Continue-room .ensures tt .2) (c .in-Continue-room .ensures tt .1) (c .in-Continue-block .ensures tt) (c .in-Continue-room .ensures tt .0) (c .base-base .ensures) (c .round-up-start .ensures) (c .relocated-line .ensures) (c .put .ensures) (c .tell .ensures)
+    (sym (c .if-has-room .ensures tt)) (c .in-Continue-room .ensures tt .2) (c .in-Continue-room .ensures tt .1) (c .in-Continue-block .ensures tt) (c .in-Continue-room .ensures tt .0) (c .base-base .ensures) (c .round-up-start .ensures .value) (c .relocated-line .ensures) (c .put .ensures) (c .tell .ensures)
 
 pub ghost-self-2 : need.ghost-self-2
 ghost-self-2 g c =
     let st : State = state (g .B·Allocator .meaning) (c .args .self .now) (c .args .region .now) in
     after st (parts (c .args .self .now .allocator)) (c .in-Continue-spot .ensures tt .ready) (Reserve (c .args .h) (c .args .more)) 0 (over st (lines-of (c .put .last .self)) (g .B·Allocator .meaning (c .relocate-moved-to .last .allocator .allocator)) (c .relocate-moved-to .last .region)) (parts (c .relocate-moved-to .last .allocator)) tt
     (link.moved-grants st (parts (c .args .self .now .allocator)) (c .args .h) (c .in-Continue-spot .spot) (c .in-Continue-spot .ensures tt) (c .args .more) (c .pre .mutable) (c .in-Continue-room .room .bytes) (c .base-base .result) (c .round-up-start .result) (asked (c .in-Continue-room .room .layout)) (c .in-Continue-block .block) (g .B·Allocator .meaning (c .relocate-moved-to .last .allocator .allocator)) (c .relocate-moved-to .last .region) (c .relocated-line .result) (lines-of (c .put .last .self)) (parts (c .relocate-moved-to .last .allocator))
-    (sym (c .if-has-room .ensures tt)) (c .in-Continue-room .ensures tt .2) (c .in-Continue-room .ensures tt .1) (c .in-Continue-block .ensures tt) (c .in-Continue-room .ensures tt .0) (c .base-base .ensures) (c .round-up-start .ensures) (c .relocated-line .ensures) (c .put .ensures)) (c .tell .ensures)
+    (sym (c .if-has-room .ensures tt)) (c .in-Continue-room .ensures tt .2) (c .in-Continue-room .ensures tt .1) (c .in-Continue-block .ensures tt) (c .in-Continue-room .ensures tt .0) (c .base-base .ensures) (c .round-up-start .ensures .value) (c .relocated-line .ensures) (c .put .ensures)) (c .tell .ensures)
