@@ -68,7 +68,7 @@ pow-divides i j = ⊎-elim above below (cases-lt i j)
 pub size-within : (size e : ℕ) → e ≤ greatest-exponent → size ≤ greatest-size - (2 ^ e - 1) → round-up size (2 ^ e) ≤ greatest-size
 size-within size e le h =
     let p = pow-pos e in
-    let q : 2 ^ e ≤ 2 ^ 16 = pow-mono le in
+    let q : 2 ^ e ≤ 2 ^ greatest-exponent = pow-mono le in
     omega (arith, round-up-high size (2 ^ e) p)
 
 pub size-beyond : (size e : ℕ) → e ≤ greatest-exponent → greatest-size - (2 ^ e - 1) < size → greatest-size < round-up size (2 ^ e)

@@ -3,6 +3,7 @@
 ghost use mathlib.Core.Bool.{true, false};
 ghost use mathlib.Core.Path.{_≡_};
 ghost use Prim.Native.Nat.{ℕ, _+_, _%_, _^_, _≤_, _<_};
+ghost use Rattle.allocation.specs.Alignments.{greatest-exponent};
 ghost use Rattle.allocators.specs.Fitting.{clear, fits, sound, highest-end};
 ghost use Rattle.std.specs.Options.{Cases};
 use allocation::block::Block;
@@ -13,7 +14,7 @@ pub(crate) fn align_up(base: usize, from: usize, align: usize) -> usize
     requires base { ⌜ base ≤ 2 ^ 47 ⌝ }
     requires from { ⌜ from ≤ 2 ^ 32 ⌝ }
     requires align { ⌜ 0 < align ⌝ }
-    requires small { ⌜ align ≤ 2 ^ 16 ⌝ }
+    requires small { ⌜ align ≤ 2 ^ greatest-exponent ⌝ }
     ensures above { λ r. ⌜ from ≤ r ⌝ }
     ensures near { λ r. ⌜ r < from + align ⌝ }
     ensures aligned { λ r. ⌜ (base + r) % align ≡ 0 ⌝ }
@@ -44,7 +45,7 @@ pub(crate) fn lowest_place(
     requires sound { ⌜ sound base extent (now live) ≡ true ⌝ }
     requires start { ⌜ start ≤ extent ⌝ }
     requires align { ⌜ 0 < request .align ⌝ }
-    requires small { ⌜ request .align ≤ 2 ^ 16 ⌝ }
+    requires small { ⌜ request .align ≤ 2 ^ greatest-exponent ⌝ }
     ensures { λ r. ⌜ Cases r
         ((q : ℕ) → start ≤ q → fits base extent (now (live .entry)) request q ≡ false)
         (λ p. (start ≤ p) × (fits base extent (now (live .entry)) request p ≡ true)
