@@ -17,5 +17,6 @@ Answers st n c (granted g) st′ = (refusal (checks st n c) ≡ None) × Does st
 abbrev pub Refuses : State → ℕ → Call → Fault → State → Type 0
 Refuses st n c f st′ = Answers st n c (refused f) st′
 
+-- granted, with the serial of the new handle
 abbrev pub Grants : State → ℕ → Call → ℕ → State → Type 0
 Grants st n c s st′ = (g : Grant) × (g .serial ≡ s) × Answers st n c (granted g) st′

@@ -52,6 +52,7 @@ one-backing (Owned b) Unbacked = false
 one-backing (Owned b) (Empty n) = false
 one-backing (Owned b) (Owned c) = same-block b c
 
+-- the key of a line
 abbrev pub serial-of : Line → ℕ
 serial-of l = l .serial
 
@@ -63,6 +64,7 @@ look-up s st = find serial-of s (st .lines)
 unfoldable pub blank : Line
 blank = record { serial = 1; mutable = false; kind = byte; backing = Unbacked; start = 0; len = 0; capacity = 0; claim = 1 }
 
+-- the line that was found, or the blank one
 unfoldable pub or-blank : Option Line → Line
 or-blank None = blank
 or-blank (Some l) = l
@@ -71,6 +73,7 @@ or-blank (Some l) = l
 unfoldable pub line : State → Handle → Line
 line st h = or-blank (look-up (h .serial) st)
 
+-- are two flags equal?
 abbrev pub same-flag : Bool → Bool → Bool
 same-flag true b = b
 same-flag false true = false

@@ -47,6 +47,7 @@ pub data Call : Type 0 where
 abbrev pub preferred-alignment : ℕ
 preferred-alignment = 256
 
+-- the preferred alignment of a call that may leave it out
 abbrev pub preferred : Option ℕ → ℕ
 preferred None = 1
 preferred (Some p) = p
@@ -55,33 +56,43 @@ preferred (Some p) = p
 abbrev pub with-capacity-in : Kind → ℕ → Call
 with-capacity-in k c = WithCapacity k c (k .align) preferred-alignment
 
+-- room for c elements at the claim a
 abbrev pub with-capacity-aligned-in : Kind → ℕ → ℕ → Call
 with-capacity-aligned-in k c a = WithCapacity k c a preferred-alignment
 
+-- room for c elements at the claim a and a preferred alignment
 abbrev pub with-capacity-preferred-aligned-in : Kind → ℕ → ℕ → Option ℕ → Call
 with-capacity-preferred-aligned-in k c a p = WithCapacity k c a (preferred p)
 
+-- n zero elements at the alignment of their kind
 abbrev pub zeroed-in : Kind → ℕ → Call
 zeroed-in k n = Zeroed k true n (k .align) preferred-alignment
 
+-- n zero elements at the claim a
 abbrev pub zeroed-aligned-in : Kind → ℕ → ℕ → Call
 zeroed-aligned-in k n a = Zeroed k true n a preferred-alignment
 
+-- n zero elements at the claim a and a preferred alignment
 abbrev pub zeroed-preferred-aligned-in : Kind → ℕ → ℕ → Option ℕ → Call
 zeroed-preferred-aligned-in k n a p = Zeroed k true n a (preferred p)
 
+-- no element and no block, at the claim a
 abbrev pub empty-aligned-in : Kind → ℕ → Call
 empty-aligned-in k a = WithCapacity k 0 a preferred-alignment
 
+-- one element n times
 abbrev pub full-in : Kind → List ℕ → ℕ → Call
 full-in k v n = CopyFrom k true (replicate n v) (k .align) preferred-alignment
 
+-- the elements given, at the alignment of their kind
 abbrev pub copy-from-in : Kind → List (List ℕ) → Call
 copy-from-in k vs = CopyFrom k true vs (k .align) preferred-alignment
 
+-- the elements given, at the claim a
 abbrev pub copy-from-aligned-in : Kind → List (List ℕ) → ℕ → Call
 copy-from-aligned-in k vs a = CopyFrom k true vs a preferred-alignment
 
+-- the elements given, at the claim a and a preferred alignment
 abbrev pub copy-from-preferred-aligned-in : Kind → List (List ℕ) → ℕ → Option ℕ → Call
 copy-from-preferred-aligned-in k vs a p = CopyFrom k true vs a (preferred p)
 
@@ -89,27 +100,35 @@ copy-from-preferred-aligned-in k vs a p = CopyFrom k true vs a (preferred p)
 abbrev pub take : Handle → Call
 take h = Take h
 
+-- keeps the first n elements
 abbrev pub truncate : Handle → ℕ → Call
 truncate h n = Truncate h n
 
+-- makes room for n more elements
 abbrev pub reserve : Handle → ℕ → Call
 reserve h n = Reserve h n
 
+-- one element behind the last
 abbrev pub push : Handle → List ℕ → Call
 push h v = Append h (v ∷ [])
 
+-- one element n times behind the last
 abbrev pub push-n : Handle → List ℕ → ℕ → Call
 push-n h v n = Append h (replicate n v)
 
+-- the elements given behind the last
 abbrev pub extend-from-slice : Handle → List (List ℕ) → Call
 extend-from-slice h vs = Append h vs
 
+-- another element at index i
 abbrev pub set : Handle → ℕ → List ℕ → Call
 set h i v = Set h i v
 
+-- the mutable handle becomes shared
 abbrev pub freeze : Handle → Call
 freeze h = Freeze h
 
+-- a mutable handle at the claim a, copied where its start does not fit
 abbrev pub aligned-mut : Handle → ℕ → Call
 aligned-mut h a = AlignedMut h a
 
@@ -117,12 +136,15 @@ aligned-mut h a = AlignedMut h a
 abbrev pub shared-copy-from-in : Kind → List (List ℕ) → Call
 shared-copy-from-in k vs = CopyFrom k false vs (k .align) preferred-alignment
 
+-- n zero elements, shared
 abbrev pub shared-zeroed-in : Kind → ℕ → Call
 shared-zeroed-in k n = Zeroed k false n (k .align) preferred-alignment
 
+-- no element and no backing, shared, at the claim a
 abbrev pub empty-aligned : Kind → ℕ → Call
 empty-aligned k a = EmptyShared k a
 
+-- one element n times, shared
 abbrev pub shared-full-in : Kind → List ℕ → ℕ → Call
 shared-full-in k v n = CopyFrom k false (replicate n v) (k .align) preferred-alignment
 
@@ -130,30 +152,39 @@ shared-full-in k v n = CopyFrom k false (replicate n v) (k .align) preferred-ali
 abbrev pub from-byte-buffer : Handle → Kind → Call
 from-byte-buffer h k = FromBytes h k (k .align)
 
+-- bytes as elements of a kind, at the claim a
 abbrev pub from-byte-buffer-aligned : Handle → Kind → ℕ → Call
 from-byte-buffer-aligned h k a = FromBytes h k a
 
+-- a second handle on the same elements
 abbrev pub share : Handle → Call
 share h = Share h
 
+-- a range, at the claim of its parent
 abbrev pub slice : Handle → Bound → Bound → Call
 slice h first last = Slice h first last Inherited
 
+-- a range, at the alignment of its kind
 abbrev pub slice-unaligned : Handle → Bound → Bound → Call
 slice-unaligned h first last = Slice h first last Of-kind
 
+-- a range, at the claim a
 abbrev pub slice-with-alignment : Handle → Bound → Bound → ℕ → Call
 slice-with-alignment h first last a = Slice h first last (Given a)
 
+-- the shared handle becomes mutable where it is alone on its backing
 abbrev pub try-into-mut : Handle → Call
 try-into-mut h = TryIntoMut h
 
+-- the shared handle becomes mutable, copied where it is not alone
 abbrev pub into-mut : Handle → Call
 into-mut h = IntoMut h
 
+-- a shared handle at the claim a, copied where its start does not fit
 abbrev pub aligned : Handle → ℕ → Call
 aligned h a = Aligned h a
 
+-- a shared handle at the claim a, where its start fits
 abbrev pub ensure-aligned : Handle → ℕ → Call
 ensure-aligned h a = EnsureAligned h a
 
@@ -161,9 +192,11 @@ ensure-aligned h a = EnsureAligned h a
 abbrev pub clear : Handle → Call
 clear h = Clear h
 
+-- the same bytes as elements of one byte
 abbrev pub into-byte-buffer : Handle → Call
 into-byte-buffer h = IntoBytes h
 
+-- ends the handle
 abbrev pub release : Handle → Call
 release h = Release h
 
@@ -177,10 +210,12 @@ pub record Grant : Type 0 where
   pub blocks : List Block
   pub copied : Bool
 
+-- refused with a fault, or granted
 pub data Answer : Type 0 where
   refused : Fault → Answer
   granted : Grant → Answer
 
+-- a grant of a call that copies nothing
 abbrev pub giving : ℕ → List Block → Grant
 giving s bs = record { serial = s; blocks = bs; copied = false }
 

@@ -26,6 +26,7 @@ use Rattle.model.specs.Kinds.{is-byte}
 abbrev pub Check : Type 0
 Check = Bool × Fault
 
+-- the first check that holds
 abbrev pub refusal : List Check → Option Fault
 refusal [] = None
 refusal (c ∷ cs) = cond (c .0) (Some (c .1)) (refusal cs)
@@ -36,15 +37,19 @@ pub record Brings : Type 0 where
   pub fitting : Bool
   pub makes : Bool
 
+-- a call that takes no handle and makes one
 abbrev pub only-makes : Brings
 only-makes = record { handles = []; fitting = true; makes = true }
 
+-- a call that takes a handle and makes none
 abbrev pub uses : Handle → Bool → Brings
 uses h fitting = record { handles = h ∷ []; fitting = fitting; makes = false }
 
+-- a call that takes a handle and makes one
 abbrev pub makes-from : Handle → Bool → Brings
 makes-from h fitting = record { handles = h ∷ []; fitting = fitting; makes = true }
 
+-- what each call brings
 abbrev pub brings : Call → Brings
 brings (WithCapacity k c a p) = only-makes
 brings (Zeroed k mutable n a p) = only-makes
@@ -86,6 +91,7 @@ overflows n = leb (2 ^ 64) n
 abbrev pub request-for : ℕ → Request
 request-for n = record { size = n; align = 1 }
 
+-- the fault of an allocator whose rule says no
 abbrev pub not-granted : Request → Fault
 not-granted r = Asked NotGranted Allocator r
 
@@ -109,6 +115,7 @@ wanted-bytes l more = max (max ((l .len + more) * l .kind .width) (2 * (l .capac
 abbrev pub wanted-request : Line → ℕ → Request
 wanted-request l more = request-for (wanted-bytes l more + l .claim)
 
+-- is there no block, or is n below its bytes?
 abbrev pub smaller : ℕ → Option Block → Bool
 smaller n None = true
 smaller n (Some b) = ltb n (usable b)
@@ -117,13 +124,16 @@ smaller n (Some b) = ltb n (usable b)
 abbrev pub takes-new : Meaning → Line → ℕ → Bool
 takes-new meaning l more = meaning .copies || smaller (wanted-request l more .size) (block-of (l .backing))
 
+-- does the rule for growths say yes? Without a block nothing grows
 abbrev pub growth-granted : Meaning → Request → Option Block → Bool
 growth-granted meaning r None = true
 growth-granted meaning r (Some b) = meaning .grows b r
 
+-- does the rule say yes that reserving goes by?
 abbrev pub room-granted : Meaning → Line → ℕ → Bool
 room-granted meaning l more = cond (takes-new meaning l more) (meaning .grants (wanted-request l more)) (growth-granted meaning (wanted-request l more) (block-of (l .backing)))
 
+-- the checks of reserving, where there is not enough room
 abbrev pub reserve-checks : Meaning → Line → ℕ → List Check
 reserve-checks meaning l more =
     (not (enough l more) && (overflows ((l .len + more) * l .kind .width) || overflows (wanted-request l more .size)), Alone Overflow)
@@ -137,21 +147,25 @@ begin (Included n) = n
 begin (Excluded n) = n + 1
 begin Unbounded = 0
 
+-- the element behind the last of a range over len elements
 abbrev pub finish : Bound → ℕ → ℕ
 finish (Included n) len = n + 1
 finish (Excluded n) len = n
 finish Unbounded len = len
 
+-- does the first bound pass 64 bits?
 abbrev pub begin-overflows : Bound → Bool
 begin-overflows (Included n) = false
 begin-overflows (Excluded n) = overflows (n + 1)
 begin-overflows Unbounded = false
 
+-- does the last bound pass 64 bits?
 abbrev pub finish-overflows : Bound → Bool
 finish-overflows (Included n) = overflows (n + 1)
 finish-overflows (Excluded n) = false
 finish-overflows Unbounded = false
 
+-- the claim of a slice of a line
 abbrev pub claimed : Claim → Line → ℕ
 claimed (Given a) l = a
 claimed Inherited l = l .claim

@@ -31,12 +31,15 @@ add-line st l = record { number = st .number; next = st .next + 1; lines = st .l
 unfoldable pub put-line : State → Line → State
 put-line st l = record { number = st .number; next = st .next; lines = update serial-of (l .serial) (λ _. l) (st .lines); meaning = st .meaning; bytes = st .bytes }
 
+-- without the line of a serial
 unfoldable pub end-line : State → ℕ → State
 end-line st s = record { number = st .number; next = st .next; lines = without serial-of s (st .lines); meaning = st .meaning; bytes = st .bytes }
 
+-- with another meaning of the allocator
 unfoldable pub with-meaning : State → Meaning → State
 with-meaning st m = record { number = st .number; next = st .next; lines = st .lines; meaning = m; bytes = st .bytes }
 
+-- with other bytes in the region
 unfoldable pub with-bytes : State → List ℕ → State
 with-bytes st bytes = record { number = st .number; next = st .next; lines = st .lines; meaning = st .meaning; bytes = bytes }
 
@@ -44,15 +47,19 @@ with-bytes st bytes = record { number = st .number; next = st .next; lines = st 
 abbrev pub with-len : Line → ℕ → Line
 with-len l n = record { serial = l .serial; mutable = l .mutable; kind = l .kind; backing = l .backing; start = l .start; len = n; capacity = l .capacity; claim = l .claim }
 
+-- mutable or shared, with another capacity
 abbrev pub with-state : Line → Bool → ℕ → Line
 with-state l mutable capacity = record { serial = l .serial; mutable = mutable; kind = l .kind; backing = l .backing; start = l .start; len = l .len; capacity = capacity; claim = l .claim }
 
+-- under another serial
 abbrev pub with-serial : Line → ℕ → Line
 with-serial l s = record { serial = s; mutable = l .mutable; kind = l .kind; backing = l .backing; start = l .start; len = l .len; capacity = l .capacity; claim = l .claim }
 
+-- on another backing
 abbrev pub with-backing : Line → Backing → Line
 with-backing l b = record { serial = l .serial; mutable = l .mutable; kind = l .kind; backing = b; start = l .start; len = l .len; capacity = l .capacity; claim = l .claim }
 
+-- with another claim
 abbrev pub with-claim : Line → ℕ → Line
 with-claim l a = record { serial = l .serial; mutable = l .mutable; kind = l .kind; backing = l .backing; start = l .start; len = l .len; capacity = l .capacity; claim = a }
 
@@ -87,6 +94,7 @@ abbrev pub block-left : Bool → Line → Option Block
 block-left true l = None
 block-left false l = block-of (l .backing)
 
+-- the blocks that were got, none or one
 abbrev pub list-of : Option Block → List Block
 list-of None = []
 list-of (Some b) = b ∷ []
@@ -96,6 +104,7 @@ abbrev pub backing-in : Option Block → Backing
 backing-in None = Empty 0
 backing-in (Some b) = Owned b
 
+-- where the elements start
 abbrev pub start-in : ℕ → ℕ → Option Block → ℕ
 start-in base m None = m
 start-in base m (Some b) = round-up (base + b .place) m
@@ -180,6 +189,7 @@ pub record Relocates (st : State) (l : Line) (more : ℕ) (bs : List Block) (st�
   pub got : bs ≡ block ∷ []
   pub is : st′ ≡ put-line (with-bytes (with-meaning st meaning) bytes) (relocated l block (round-up (st .meaning .base + block .place) (l .claim)) (wanted-bytes l more / l .kind .width))
 
+-- reserving: nothing happens where there is enough room
 abbrev pub Reserves : Bool → State → Line → ℕ → List Block → State → Type 0
 Reserves true st l more bs st′ = (bs ≡ []) × (st′ ≡ st)
 Reserves false st l more bs st′ = Relocates st l more bs st′
@@ -188,6 +198,7 @@ Reserves false st l more bs st′ = Relocates st l more bs st′
 unfoldable pub appended : State → Line → List (List ℕ) → State
 appended st l vs = put-line (with-bytes st (overwrite (l .start - st .meaning .base + l .len * l .kind .width) (joined vs) (st .bytes))) (with-len l (l .len + length vs))
 
+-- the first n elements, where there are so many
 abbrev pub shortened : Bool → ℕ → Line → Line
 shortened true n l = with-len l n
 shortened false n l = l

@@ -22,6 +22,7 @@ pub record Plain : Type 0 where
   pub copies : Bool
   pub live : List Block
 
+-- the plain parts of a meaning
 abbrev pub plain-of : Meaning → Plain
 plain-of m = record { base = m .base; extent = m .extent; room = m .room; copies = m .copies; live = m .live }
 

@@ -20,5 +20,6 @@ pub record Sound-kind (k : Kind) : Type 0 where
 abbrev pub byte : Kind
 byte = record { width = 1; align = 1 }
 
+-- is this the kind of bytes?
 abbrev pub is-byte : Kind → Bool
 is-byte k = eqb (k .width) 1 && eqb (k .align) 1

@@ -57,6 +57,7 @@ pub record Kept (base : ℕ) (l : Line) : Type 0 where
   pub ample : l .mutable ≡ true → l .len ≤ l .capacity
   pub shared : l .mutable ≡ false → l .capacity ≡ 0
 
+-- every line in a run keeps these, and there are at most 64
 abbrev pub Lines-law : Type 0
 Lines-law =
     (w : World) → Reached w → (s : Store) → In s w
@@ -142,6 +143,7 @@ abbrev pub Plain-fault : Fault → Type 0
 Plain-fault (Alone r) = Unit {0}
 Plain-fault (Asked r layer q) = (r ≡ NotGranted) × (q .align ≡ 1)
 
+-- which faults a call answers
 abbrev pub Faults-law : Type 0
 Faults-law = (st : State) (n : ℕ) (c : Call) (f : Fault) (st′ : State) → Answers st n c (refused f) st′ → Plain-fault f
 

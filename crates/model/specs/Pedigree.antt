@@ -21,12 +21,15 @@ pub record Row : Type 0 where
   pub list : List (List ℕ)
   pub block : Option Block
 
+-- the rows of a store
 abbrev pub Table : Type 0
 Table = List Row
 
+-- the key of a row
 unfoldable pub key-of : Row → ℕ
 key-of r = r .serial
 
+-- the row of a serial
 unfoldable pub row : ℕ → Table → Option Row
 row s tb = find key-of s tb
 
@@ -34,9 +37,11 @@ row s tb = find key-of s tb
 unfoldable pub spelling : Row → List (List ℕ) → Row
 spelling r vs = record { serial = r .serial; kind = r .kind; list = vs; block = r .block }
 
+-- over another block
 unfoldable pub upon : Row → Option Block → Row
 upon r b = record { serial = r .serial; kind = r .kind; list = r .list; block = b }
 
+-- under another serial
 unfoldable pub named : Row → ℕ → Row
 named r s = record { serial = s; kind = r .kind; list = r .list; block = r .block }
 
@@ -62,6 +67,7 @@ branch (Some r) f tb = f r ∷ tb
 abbrev pub range : Row → Bound → Bound → List (List ℕ)
 range r first last = take (finish last (length (r .list)) - begin first) (drop (begin first) (r .list))
 
+-- the block under a list: none where the list is empty
 abbrev pub if-any : List (List ℕ) → Option Block → Option Block
 if-any [] b = None
 if-any (v ∷ vs) b = b

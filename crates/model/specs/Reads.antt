@@ -21,15 +21,19 @@ use Rattle.model.specs.Checks.{is-aligned}
 abbrev pub len-of : State → Handle → ℕ
 len-of st h = line st h .len
 
+-- is there no element?
 abbrev pub is-empty : State → Handle → Bool
 is-empty st h = eqb (line st h .len) 0
 
+-- the claim
 abbrev pub alignment-of : State → Handle → ℕ
 alignment-of st h = line st h .claim
 
+-- the capacity; 0 of a shared handle
 abbrev pub capacity-of : State → Handle → ℕ
 capacity-of st h = line st h .capacity
 
+-- is the start a multiple of the alignment?
 abbrev pub is-aligned-to : State → Handle → ℕ → Bool
 is-aligned-to st h a = is-aligned (line st h) a
 
@@ -38,6 +42,7 @@ abbrev pub place-on : Option Block → ℕ → Line → ℕ
 place-on None base l = 0
 place-on (Some b) base l = l .start - base
 
+-- the place of what a line shows
 abbrev pub shown-place : ℕ → Line → ℕ
 shown-place base l = place-on (block-of (l .backing)) base l
 
@@ -45,6 +50,7 @@ shown-place base l = place-on (block-of (l .backing)) base l
 abbrev pub slice-place : State → Handle → ℕ
 slice-place st h = shown-place (st .meaning .base) (line st h)
 
+-- the bytes of the part
 abbrev pub slice-bytes : State → Handle → List ℕ
 slice-bytes st h = shown (st .meaning .base) (line st h) (st .bytes)
 
@@ -53,5 +59,6 @@ pub data Verdict : Type 0 where
   fails : Fault → Verdict
   says : Bool → Verdict
 
+-- the verdict on two parts of a kind
 abbrev pub same : Kind → List ℕ → List ℕ → Verdict
 same k xs ys = cond (not (eqb (length xs % k .width) 0) || not (eqb (length ys % k .width) 0)) (fails (Alone PartialElement)) (says (equal xs ys))

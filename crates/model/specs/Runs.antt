@@ -20,6 +20,7 @@ Sound-claim (Given a) = Is-alignment a
 Sound-claim Inherited = Unit {0}
 Sound-claim Of-kind = Unit {0}
 
+-- what they give each call
 abbrev pub Sound : Call → Type 0
 Sound (WithCapacity k c a p) = Sound-kind k × Is-alignment a × Is-alignment p
 Sound (Zeroed k mutable n a p) = Sound-kind k × Is-alignment a × Is-alignment p
@@ -58,9 +59,11 @@ pub record New (s : Store) : Type 0 where
   pub lines : s .state .lines ≡ []
   pub rows : s .table ≡ []
 
+-- the stores of a run
 abbrev pub World : Type 0
 World = List Store
 
+-- a store is one of these
 abbrev pub In : Store → World → Type 0
 In s [] = ⊥
 In s (x ∷ xs) = (x ≡ s) ⊎ In s xs
