@@ -20,7 +20,7 @@ pub struct Held<B: Allocator> {
 impl<B: Allocator> Model for Held<B> {
     ghost also_owns = { λ h. feq Plain (decoded h.model) (plain_of (B.Allocator.meaning h.allocator)) };
 
-    ghost also_shares = { λ h _ κ. said (feq Plain (decoded h.model) (plain_of (B.Allocator.meaning h.allocator))) tt κ };
+    ghost also_shares = { λ h _ κ. said (feq Plain (decoded h.model) (plain_of (B.Allocator.meaning h.allocator))) κ };
 }
 
 impl<B: Allocator + Drop> Drop for Held<B> {

@@ -23,7 +23,7 @@ impl Shelf {
     // An allocator of a region of that base and length, without a block, unless a limit is broken.
     pub fn new(base: usize, extent: usize) -> Result<Shelf, Refusal>
         ensures { MatchResult result
-            (λ made. Limits base extent × (shelf IfOk ≡ shelf_meaning base extent []))
+            (λ made. Limits base extent × (shelf made ≡ shelf_meaning base extent []))
             (λ e. (Limits base extent → ⊥) × (e ≡ RegionDiffers)) }
     {
         let arena = Arena::new(base, extent)?;

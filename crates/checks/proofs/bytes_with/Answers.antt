@@ -8,7 +8,7 @@ more_by x w h n =
     let k : 2 ^ 64 ≤ x = ⊎_elim (λ (a : x < 2 ^ 64). absurd (n a)) (λ b. b) (cases_lt x (2 ^ 64)) in
     omega (arith, mul-le-mul_right x h, mul_comm x w)
 
-pub returns-in-default : goal.returns-in-default
-returns-in-default c =
+pub returns-in_default : goal.returns-in_default
+returns-in_default c =
     let x : ℕ = c.args.line.len + c.args.more in
-    le-leb (2 ^ 64) (x * c.args.line.kind.width) (more_by x c.args.line.kind.width c.requires c.in-default.ensures)
+    le-leb (2 ^ 64) (x * c.args.line.kind.width) (more_by x c.args.line.kind.width c.requires c.in_default.ensures)

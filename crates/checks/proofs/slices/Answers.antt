@@ -7,26 +7,26 @@ use Rattle.checks.proofs.slices.Goals as goal
 before : (start n len w : ℕ) → n ≤ len → start + len * w < 2 ^ 64 → start + n * w < 2 ^ 64
 before start n len w le h = omega (arith, mul-le-mul_right w le)
 
-begins : (c : goal.In-ok-range) → c.args.line.start + c.in-ok-range.range.begin * c.args.line.kind.width < 2 ^ 64
+begins : (c : goal.In_ok-range) → c.args.line.start + c.in_ok-range.range.begin * c.args.line.kind.width < 2 ^ 64
 begins c =
-    let k = c.in-ok-range.ensures in
-    before c.args.line.start c.in-ok-range.range.begin c.args.line.len c.args.line.kind.width (omega (arith, k.2, k.3)) c.requires
+    let k = c.in_ok-range.ensures in
+    before c.args.line.start c.in_ok-range.range.begin c.args.line.len c.args.line.kind.width (omega (arith, k.2, k.3)) c.requires
 
-pub slice-claims-requires : goal.slice-claims-requires
-slice-claims-requires c = begins c
+pub slice_claims-requires : goal.slice_claims-requires
+slice_claims-requires c = begins c
 
-pub returns-in-err-range : goal.returns-in-err-range
-returns-in-err-range c =
-    let p = err_from_is_err_and c.from-residual.result c.from-residual.ensures.1 in
-    rw (p.1, p.2) (slice_stops c.args.line c.args.first c.args.last c.args.claim _ c.in-err-range.ensures)
+pub returns-in_err-range : goal.returns-in_err-range
+returns-in_err-range c =
+    let p = err_from_is_err_and c.from_residual.result c.from_residual.ensures.1 in
+    rw (p.1, p.2) (slice_stops c.args.line c.args.first c.args.last c.args.claim _ c.in_err-range.ensures)
 
-pub returns-in-err-slice-claims : goal.returns-in-err-slice-claims
-returns-in-err-slice-claims c =
-    let p = err_from_is_err_and c.from-residual-in-err-slice-claims.result c.from-residual-in-err-slice-claims.ensures.1 in
-    let k = c.in-ok-range.ensures in
-    rw (p.1, p.2) (slice_passes c.args.line c.args.first c.args.last c.args.claim c.in-ok-range.range.begin c.in-ok-range.range.end k.4 k.0 k.1 ∙ c.in-err-slice-claims.ensures)
+pub returns-in_err-slice_claims : goal.returns-in_err-slice_claims
+returns-in_err-slice_claims c =
+    let p = err_from_is_err_and c.from_residual-in_err-slice_claims.result c.from_residual-in_err-slice_claims.ensures.1 in
+    let k = c.in_ok-range.ensures in
+    rw (p.1, p.2) (slice_passes c.args.line c.args.first c.args.last c.args.claim c.in_ok-range.range.begin c.in_ok-range.range.end k.4 k.0 k.1 ∙ c.in_err-slice_claims.ensures)
 
 pub returns : goal.returns
 returns c =
-    let k = c.in-ok-range.ensures in
-    (k.0, k.1, before c.args.line.start c.in-ok-range.range.begin c.args.line.len c.args.line.kind.width (omega (arith, k.2, k.3)) c.requires, slice_passes c.args.line c.args.first c.args.last c.args.claim c.in-ok-range.range.begin c.in-ok-range.range.end k.4 k.0 k.1 ∙ c.in-ok-slice-claims.ensures)
+    let k = c.in_ok-range.ensures in
+    (k.0, k.1, before c.args.line.start c.in_ok-range.range.begin c.args.line.len c.args.line.kind.width (omega (arith, k.2, k.3)) c.requires, slice_passes c.args.line c.args.first c.args.last c.args.claim c.in_ok-range.range.begin c.in_ok-range.range.end k.4 k.0 k.1 ∙ c.in_ok-slice_claims.ensures)

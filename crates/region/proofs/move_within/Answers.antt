@@ -10,4 +10,4 @@ unfolding part
 returns c =
     let r = c.args.region.now in
     let from = c.args.from in
-    c.copy-within.ensures.after ∙ ap (λ n. paste r c.args.to (drop from r) n) (omega arith) ∙ overwrite_paste c.args.to c.args.n (drop from r) r (simp length-drop (omega arith))
+    c.copy_within.ensures.after ∙ ap (λ n. paste r c.args.to (drop from r) n) (omega arith) ∙ overwrite_paste c.args.to c.args.n (drop from r) r (simp length-drop (omega arith))

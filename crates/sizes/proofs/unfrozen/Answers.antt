@@ -2,6 +2,6 @@ use Rattle.std.proofs.Common.{rules}
 use Rattle.model.specs.Book.{block_of}
 use Rattle.sizes.proofs.unfrozen.Goals as goal
 
-pub room-behind-requires : goal.room-behind-requires
+pub room_behind-requires : goal.room_behind-requires
 unfolding block_of
-room-behind-requires c = record { sits = rw c.in-Owned.is at c.requires.sits; wide = c.requires.wide }
+room_behind-requires c = record { sits = rw c.in-Owned.is at c.requires.sits; wide = c.requires.wide }

@@ -5,8 +5,8 @@ use Rattle.allocators.specs.Blocks.{sound_at}
 use Rattle.allocators.specs.Grants.{highest_push}
 use Rattle.allocators.proofs.places.highest.Goals as goal
 
-pub overflow-add-b : goal.overflow-add-b
-overflow-add-b c =
+pub overflow_add-b : goal.overflow_add-b
+overflow_add-b c =
     let h = sound_at c.args.base c.args.extent c.args.live.now c.loop-b.b-index no_block c.requires c.loop-b-test.true in
     omega arith
 

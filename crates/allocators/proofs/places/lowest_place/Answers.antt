@@ -12,13 +12,13 @@ apart-requires c =
     let h = sound_at c.args.base c.args.extent c.args.live.now c.loop-b.b-index no_block c.requires.sound c.loop-b-test.true in
     record { one = omega arith; other = omega arith }
 
-pub overflow-add-b : goal.overflow-add-b
-overflow-add-b c =
+pub overflow_add-b : goal.overflow_add-b
+overflow_add-b c =
     let h = sound_at c.args.base c.args.extent c.args.live.now c.loop-b.b-index no_block c.requires.sound c.loop-b-test.true in
     omega arith
 
-pub align-up-place-requires-then-not-apart : goal.align-up-place-requires-then-not-apart
-align-up-place-requires-then-not-apart c =
+pub align_up-place-requires-then-not-apart : goal.align_up-place-requires-then-not-apart
+align_up-place-requires-then-not-apart c =
     let h = sound_at c.args.base c.args.extent c.args.live.now c.loop-b.b-index no_block c.requires.sound c.loop-b-test.true in
     record { base = omega arith; from = omega arith; align = omega arith; small = omega arith }
 
@@ -31,14 +31,14 @@ pub candidates-preserved : goal.candidates-preserved
 candidates-preserved c =
     let blocked = not_clear_place (block_at c.candidates.place c.args.request) (get_or c.args.live.now c.loop-b.b-index no_block) (sym c.if-not-apart.ensures) in (
       omega (arith, blocked.1, c.candidates.invariant.0),
-      c.align-up-place-then-not-apart.ensures.aligned,
+      c.align_up-place-then-not-apart.ensures.aligned,
       λ q high l. elim (cases_Bool (fits c.args.base c.args.extent c.args.live.now c.args.request q)) [
         | inr never ↦ never
         | inl fit ↦ elim (cases_lt q c.candidates.place) [
           | inl below ↦ c.candidates.invariant.2 q high below
           | inr above ↦
               let p = behind c.args.base c.args.extent c.args.live.now c.args.request c.candidates.place q c.loop-b.b-index no_block fit c.loop-b-test.true above blocked.0 in
-              let first : c.align-up-place-then-not-apart.result ≤ q = c.align-up-place-then-not-apart.ensures.first q p.0 p.1 in
+              let first : c.align_up-place-then-not-apart.result ≤ q = c.align_up-place-then-not-apart.ensures.first q p.0 p.1 in
               absurd (omega arith)
         ]
       ],

@@ -6,6 +6,6 @@ pub returns-in-Owned : goal.returns-in-Owned
 unfolding block_of
 returns-in-Owned c = search rules
 
-pub returns-in-default : goal.returns-in-default
+pub returns-in_default : goal.returns-in_default
 unfolding block_of
-returns-in-default c = search rules
+returns-in_default c = search rules

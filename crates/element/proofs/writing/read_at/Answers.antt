@@ -15,16 +15,16 @@ returns-then-not-holds g c =
     let past = ends_outside c.args.index m w positive (ltb-false c.args.index (m / w) (sym c.if-not-holds.ensures)) in
     rw (← c.width-width.ensures) past
 
-pub place-of-from-requires : goal.place-of-from-requires
-place-of-from-requires g c =
+pub place_of-from-requires : goal.place_of-from-requires
+place_of-from-requires g c =
     omega (arith, inside g c.width-width.result c.args.index (length c.args.bytes.now) c.width-width.ensures (sym c.if-not-holds.ensures))
 
-pub end-of-requires : goal.end-of-requires
-end-of-requires g c =
+pub end_of-requires : goal.end_of-requires
+end_of-requires g c =
     omega (arith, c.width-width.ensures, inside g c.width-width.result c.args.index (length c.args.bytes.now) c.width-width.ensures (sym c.if-not-holds.ensures))
 
-pub slice-bounds-get-end : goal.slice-bounds-get-end
-slice-bounds-get-end g c =
+pub slice_bounds-get-end : goal.slice_bounds-get-end
+slice_bounds-get-end g c =
     let h = inside g c.width-width.result c.args.index (length c.args.bytes.now) c.width-width.ensures (sym c.if-not-holds.ensures) in
     let e = c.width-width.ensures in
     search rules
@@ -35,8 +35,8 @@ returns g c =
     let bs = c.args.bytes.now in
     let i = c.args.index in
     let w = g.K.Element.width in
-    let from = c.place-of-from.result in
+    let from = c.place_of-from.result in
     let within = inside g c.width-width.result i (length bs) c.width-width.ensures (sym c.if-not-holds.ensures) in
-    let starts : from ≡ i * w = c.place-of-from.ensures ∙ omega arith ∙ ap (λ v. i * v) c.width-width.ensures in
-    let count : c.end-of.result - from ≡ w = omega (arith, c.end-of.ensures) in
+    let starts : from ≡ i * w = c.place_of-from.ensures ∙ omega arith ∙ ap (λ v. i * v) c.width-width.ensures in
+    let count : c.end_of.result - from ≡ w = omega (arith, c.end_of.ensures) in
     (rw (← c.width-width.ensures) within, c.get.ensures ∙ ap (λ n. take n (drop from bs)) count ∙ ap (λ k. take w (drop k bs)) starts)

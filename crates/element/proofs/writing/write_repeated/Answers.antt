@@ -9,12 +9,12 @@ use Rattle.element.proofs.writing.write_repeated.Goals as goal
 pub loop-i-init : goal.loop-i-init
 loop-i-init g c = sym (overwrite_none c.args.place c.args.region.now)
 
-pub place-of-requires : goal.place-of-requires
-place-of-requires g c =
+pub place_of-requires : goal.place_of-requires
+place_of-requires g c =
     omega (arith, place_within c.args.place c.loop-i.i _ g.K.Element.width c.width-width.result _ c.loop-i-test.true c.width-width.ensures c.requires)
 
-pub write-one-requires : goal.write-one-requires
-write-one-requires g c =
+pub write_one-requires : goal.write_one-requires
+write_one-requires g c =
     omega (arith, c.width-width.ensures, place_within c.args.place c.loop-i.i _ g.K.Element.width c.width-width.result _ c.loop-i-test.true c.width-width.ensures c.requires)
 
 pub loop-i-preserved : goal.loop-i-preserved
@@ -23,6 +23,6 @@ loop-i-preserved g c =
     let i = c.loop-i.i in
     let x = c.args.value.now in
     let r = c.args.region.now in
-    let at : c.place-of.result ≡ c.args.place + i * k.width = c.place-of.ensures ∙ ap (λ w. c.args.place + i * w) c.width-width.ensures in
+    let at : c.place_of.result ≡ c.args.place + i * k.width = c.place_of.ensures ∙ ap (λ w. c.args.place + i * w) c.width-width.ensures in
     let room = place_within c.args.place i c.args.n k.width k.width (length r) c.loop-i-test.true refl c.requires in
-    write_more k.width k.pattern g.met.K.Element.faithful.long (replicate i x) x c.args.place _ i r c.loop-i.region _ (length-replicate i x) at room c.loop-i.invariant c.write-one.ensures ∙ ap (λ ys. overwrite c.args.place (flat_map k.pattern ys) r) (replicate_more i x)
+    write_more k.width k.pattern g.met.K.Element.faithful.long (replicate i x) x c.args.place _ i r c.loop-i.region _ (length-replicate i x) at room c.loop-i.invariant c.write_one.ensures ∙ ap (λ ys. overwrite c.args.place (flat_map k.pattern ys) r) (replicate_more i x)

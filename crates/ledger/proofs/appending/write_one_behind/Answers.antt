@@ -4,11 +4,11 @@ use Rattle.region.proofs.Writes.{overwrite_none}
 use Rattle.ledger.proofs.Appends.{joined_none}
 use Rattle.ledger.proofs.appending.write_one_behind.Goals as goal
 
-pub element-place-requires : goal.element-place-requires
-element-place-requires g c = let i = c.requires.inside (omega arith) in (i.0, i.2)
+pub element_place-requires : goal.element_place-requires
+element_place-requires g c = let i = c.requires.inside (omega arith) in (i.0, i.2)
 
-pub write-one-requires : goal.write-one-requires
-write-one-requires g c = let i = c.requires.inside (omega arith) in rw (sym c.requires.wide) (omega (arith, i.1, c.element-place.ensures))
+pub write_one-requires : goal.write_one-requires
+write_one-requires g c = let i = c.requires.inside (omega arith) in rw (sym c.requires.wide) (omega (arith, i.1, c.element_place.ensures))
 
 pub returns : goal.returns
-returns g c = rw (sym c.element-place.ensures) c.write-one.ensures
+returns g c = rw (sym c.element_place.ensures) c.write_one.ensures

@@ -5,41 +5,41 @@ use Rattle.allocation.specs.Meaning.{Meaning}
 use Rattle.ledger.proofs.Movings.{grown_within, spaced_in, place_fits, grow_granted, grow_refused, offset_fits, grown_by}
 use Rattle.ledger.proofs.moving.grow_into.Goals as goal
 
-pub returns-in-err-grow : goal.returns-in-err-grow
-returns-in-err-grow g c =
+pub returns-in_err-grow : goal.returns-in_err-grow
+returns-in_err-grow g c =
     let m : Meaning = g.B.Allocator.meaning c.args.allocator.now in
-    let p = err_from_is_err_and c.from-residual.result c.from-residual.ensures.1 in
-    let b = c.in-err-grow.ensures.outcome in
+    let p = err_from_is_err_and c.from_residual.result c.from_residual.ensures.1 in
+    let b = c.in_err-grow.ensures.outcome in
     let r = grow_refused m (length c.args.region.now) c.args.line (asked c.args.layout) c.requires.movable c.args.block c.requires.on c.requires.larger _ b.0 in
     rw (p.1, p.2) (r.0, r.1, b.2, b.3)
 
-pub place-in-place-requires : goal.place-in-place-requires
-place-in-place-requires g c =
+pub place_in-place-requires : goal.place_in-place-requires
+place_in-place-requires g c =
     let m : Meaning = g.B.Allocator.meaning c.args.allocator.now in
-    let x = c.in-ok-grow.ensures.outcome.1 in
+    let x = c.in_ok-grow.ensures.outcome.1 in
     spaced_in m (length c.args.region.now) c.args.line (asked c.args.layout) c.requires.movable c.grow.new.self.block c.base-base.result x.size (grown_within m c.args.block (asked c.args.layout) c.grow.new.self.block _ _ _ x) c.base-base.ensures
 
-pub grown-place-from-requires : goal.grown-place-from-requires
-grown-place-from-requires g c =
+pub grown_place-from-requires : goal.grown_place-from-requires
+grown_place-from-requires g c =
     let m : Meaning = g.B.Allocator.meaning c.args.allocator.now in
-    let x = c.in-ok-grow.ensures.outcome.1 in
+    let x = c.in_ok-grow.ensures.outcome.1 in
     let o = offset_fits m (length c.args.region.now) c.args.line (asked c.args.layout) c.requires.movable c.args.block c.requires.on c.requires.larger c.grow.new.self.block c.base-base.result x.size (grown_within m c.args.block (asked c.args.layout) c.grow.new.self.block _ _ _ x) c.base-base.ensures in
     (o.0, o.1)
 
-pub move-within-requires : goal.move-within-requires
-move-within-requires g c =
+pub move_within-requires : goal.move_within-requires
+move_within-requires g c =
     let m : Meaning = g.B.Allocator.meaning c.args.allocator.now in
-    let x = c.in-ok-grow.ensures.outcome.1 in
+    let x = c.in_ok-grow.ensures.outcome.1 in
     let w = grown_within m c.args.block (asked c.args.layout) c.grow.new.self.block _ _ _ x in
     let o = offset_fits m (length c.args.region.now) c.args.line (asked c.args.layout) c.requires.movable c.args.block c.requires.on c.requires.larger c.grow.new.self.block c.base-base.result x.size w c.base-base.ensures in
-    let b = place_fits m (length c.args.region.now) c.args.line (asked c.args.layout) c.requires.movable c.grow.new.self.block c.base-base.result c.place-in-place.result x.size w c.base-base.ensures c.place-in-place.ensures in
-    record { source = omega (arith, o.2, x.outside.long, c.grown-place-from.ensures); target = omega (arith, b, x.outside.long) }
+    let b = place_fits m (length c.args.region.now) c.args.line (asked c.args.layout) c.requires.movable c.grow.new.self.block c.base-base.result c.place_in-place.result x.size w c.base-base.ensures c.place_in-place.ensures in
+    record { source = omega (arith, o.2, x.outside.long, c.grown_place-from.ensures); target = omega (arith, b, x.outside.long) }
 
 pub returns : goal.returns
 returns g c =
     let m : Meaning = g.B.Allocator.meaning c.args.allocator.now in
-    let x = c.in-ok-grow.ensures.outcome in (
+    let x = c.in_ok-grow.ensures.outcome in (
       grow_granted m (length c.args.region.now) c.args.line (asked c.args.layout) c.requires.movable c.args.block c.requires.on c.requires.larger x.0,
-      grown_by m (length c.args.region.now) c.args.line (asked c.args.layout) c.requires.movable c.args.block c.requires.on c.requires.larger c.grow.new.self.block c.base-base.result c.place-in-place.result c.grown-place-from.result _ _ c.grow.new.region _
-          c.base-base.ensures c.place-in-place.ensures c.grown-place-from.ensures x.1 c.move-within.ensures,
+      grown_by m (length c.args.region.now) c.args.line (asked c.args.layout) c.requires.movable c.args.block c.requires.on c.requires.larger c.grow.new.self.block c.base-base.result c.place_in-place.result c.grown_place-from.result _ _ c.grow.new.region _
+          c.base-base.ensures c.place_in-place.ensures c.grown_place-from.ensures x.1 c.move_within.ensures,
     )

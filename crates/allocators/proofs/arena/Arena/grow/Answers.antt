@@ -11,9 +11,9 @@ use Rattle.allocators.proofs.arena.Arena.grow.Goals as goal
 pub carry-requires : goal.carry-requires
 carry-requires c =
     let a = c.args.self.now in
-    let p = c.in-ok-place.place in
+    let p = c.in_ok-place.place in
     let r = asked c.args.layout in
-    let done = c.in-ok-place.ensures in
+    let done = c.in_ok-place.ensures in
     let free = regrown_free a.base a.extent (held a.table) a.kept c.args.placing c.args.block r p done.2 done.3 in
     let w = regrown_within a.base a.extent (held a.table) a.kept c.args.block r p done.2 free in
     record { source = omega arith; target = omega arith }
@@ -21,30 +21,30 @@ carry-requires c =
 pub push-requires : goal.push-requires
 push-requires c =
     let a = c.args.self.now in
-    let live = and_parts (is_among c.args.block (held a.table)) (leb c.args.block.size c.args.layout.size) c.in-ok-place.ensures.2 in
+    let live = and_parts (is_among c.args.block (held a.table)) (leb c.args.block.size c.args.layout.size) c.in_ok-place.ensures.2 in
     let less = without_length (held a.table) c.args.block live.0 in
     let few : length (held a.table) ≤ 64 = simp length-take (omega arith) in
     rw c.remove.ensures (omega arith)
 
-pub invariant-of-self : goal.invariant-of-self
-invariant-of-self c =
+pub invariant_of-self : goal.invariant_of-self
+invariant_of-self c =
     let a = c.args.self.now in
-    let p = c.in-ok-place.place in
+    let p = c.in_ok-place.place in
     let r = asked c.args.layout in
-    let done = c.in-ok-place.ensures in
+    let done = c.in_ok-place.ensures in
     let free = regrown_free a.base a.extent (held a.table) a.kept c.args.placing c.args.block r p done.2 done.3 in
-    let e : held c.push.new.self ≡ without (held a.table) c.args.block ++ block_at p r ∷ [] = rw (c.remove.ensures, c.block-at.ensures) at c.push.ensures in
+    let e : held c.push.new.self ≡ without (held a.table) c.args.block ++ block_at p r ∷ [] = rw (c.remove.ensures, c.block_at.ensures) at c.push.ensures in
     let kept = sound_regrown a.base a.extent (held a.table) a.kept c.args.block (block_at p r) free (held c.push.new.self) e in
-    (a.low, (a.long, (a.short, (kept, tt))))
+    record { low = a.low; long = a.long; short = a.short; kept = kept }
 
 pub returns : goal.returns
 returns c =
     let a = c.args.self.now in
-    let p = c.in-ok-place.place in
+    let p = c.in_ok-place.place in
     let r = asked c.args.layout in
-    let done = c.in-ok-place.ensures in
+    let done = c.in_ok-place.ensures in
     let free = regrown_free a.base a.extent (held a.table) a.kept c.args.placing c.args.block r p done.2 done.3 in
-    let e : held c.push.new.self ≡ without (held a.table) c.args.block ++ block_at p r ∷ [] = rw (c.remove.ensures, c.block-at.ensures) at c.push.ensures in
+    let e : held c.push.new.self ≡ without (held a.table) c.args.block ++ block_at p r ∷ [] = rw (c.remove.ensures, c.block_at.ensures) at c.push.ensures in
     record {
       outcome = (
         done.0,

@@ -8,5 +8,5 @@ use Rattle.allocators.proofs.arena.Arena.place_for.Goals as goal
 pub returns : goal.returns
 returns c =
     let a = c.args.self.now in
-    grants_found a.base a.extent (held a.table) (start_of c.args.placing (held a.table)) (asked c.args.layout) c.lowest-place.result
-    c.as-slice.result.now c.start-start.result c.request.result c.as-slice.ensures c.start-start.ensures.at c.request.ensures (c.if-is-full.ensures.free refl) c.lowest-place.ensures
+    grants_found a.base a.extent (held a.table) (start_of c.args.placing (held a.table)) (asked c.args.layout) c.lowest_place.result
+    c.as_slice.result.now c.start-start.result c.request.result c.as_slice.ensures c.start-start.ensures.at c.request.ensures (c.if-is_full.ensures.free refl) c.lowest_place.ensures

@@ -5,9 +5,9 @@ use Rattle.allocators.specs.Blocks.{found_without, without_none}
 use Rattle.allocators.proofs.Edits.{Shifted, shifted_none, shifted_more, shifted_all}
 use Rattle.allocators.proofs.table.Table.remove.Goals as goal
 
-pub returns-in-default : goal.returns-in-default
-returns-in-default c =
-    sym (without_none (held c.args.self.now) c.args.block (rw c.as-slice.ensures at c.in-default.ensures))
+pub returns-in_default : goal.returns-in_default
+returns-in_default c =
+    sym (without_none (held c.args.self.now) c.args.block (rw c.as_slice.ensures at c.in_default.ensures))
 
 pub loop-k-init : goal.loop-k-init
 loop-k-init c = (refl, shifted_none no_block c.in-Some.i c.args.self.now.lines)
@@ -21,7 +21,7 @@ loop-k-preserved c = (
 pub returns : goal.returns
 returns c =
     let t = c.args.self.now in
-    let found : Found (held t) c.in-Some.i c.args.block = rw c.as-slice.ensures at c.in-Some.ensures.1 in
+    let found : Found (held t) c.in-Some.i c.args.block = rw c.as_slice.ensures at c.in-Some.ensures.1 in
     let inside : c.in-Some.i < t.count = omega (arith, simp length-take at found.0) in
     let k = c.loop-k.k in
     let last : k ≡ t.count - 1 = omega (arith, c.loop-k.auto.k-end (omega arith)) in

@@ -7,4 +7,4 @@ pub returns : goal.returns
 returns c =
     let ls = c.args.self.now.lines in
     let h : length ls ≤ 64 = omega arith in
-    record { lines = ap (λ n. take n ls) c.within-limit.ensures ∙ take_within c.args.self.now.count 64 ls h; few = simp length-take (omega arith) }
+    record { lines = ap (λ n. take n ls) c.within_limit.ensures ∙ take_within c.args.self.now.count 64 ls h; few = simp length-take (omega arith) }

@@ -10,16 +10,16 @@ use Rattle.ledger.proofs.LineEdits as edits
 use Rattle.ledger.proofs.Shows.{shown_at, shown_inside, shown_part}
 use Rattle.ledger.proofs.ledger.Ledger.as_slice.Goals as goal
 
-pub shown-in-requires : goal.shown-in-requires
-shown-in-requires g c =
+pub shown_in-requires : goal.shown_in-requires
+shown_in-requires g c =
     let st : State = state g.B.Allocator.meaning c.args.self.now c.args.region.now in
     record {
-      sits = subst (λ b. Sits b c.in-ok-spot.spot.line (block_of c.in-ok-spot.spot.line.backing)) (sym c.base-base.ensures) (edits.stands st (parts c.args.self.now.allocator) c.args.h c.in-ok-spot.spot c.in-ok-spot.ensures).sits;
-      inside = ((edits.bytes_fit st (parts c.args.self.now.allocator) c.args.h c.in-ok-spot.spot c.in-ok-spot.ensures).0, shown_inside st (parts c.args.self.now.allocator) c.args.h c.in-ok-spot.spot c.in-ok-spot.ensures c.base-base.result c.base-base.ensures);
+      sits = subst (λ b. Sits b c.in_ok-spot.spot.line (block_of c.in_ok-spot.spot.line.backing)) (sym c.base-base.ensures) (edits.stands st (parts c.args.self.now.allocator) c.args.h c.in_ok-spot.spot c.in_ok-spot.ensures).sits;
+      inside = ((edits.bytes_fit st (parts c.args.self.now.allocator) c.args.h c.in_ok-spot.spot c.in_ok-spot.ensures).0, shown_inside st (parts c.args.self.now.allocator) c.args.h c.in_ok-spot.spot c.in_ok-spot.ensures c.base-base.result c.base-base.ensures);
     }
 
 pub returns : goal.returns
 returns g c =
     let st : State = state g.B.Allocator.meaning c.args.self.now c.args.region.now in
-    let a = c.in-ok-spot.ensures in
-    (told st c.args.h a.passed, c.shown-in.ensures ∙ shown_part st (parts c.args.self.now.allocator) c.args.h c.in-ok-spot.spot a c.base-base.result c.base-base.ensures, c.shown-in.ensures ∙ shown_at st (parts c.args.self.now.allocator) c.args.h c.in-ok-spot.spot a c.base-base.result c.base-base.ensures)
+    let a = c.in_ok-spot.ensures in
+    (told st c.args.h a.passed, c.shown_in.ensures ∙ shown_part st (parts c.args.self.now.allocator) c.args.h c.in_ok-spot.spot a c.base-base.result c.base-base.ensures, c.shown_in.ensures ∙ shown_at st (parts c.args.self.now.allocator) c.args.h c.in_ok-spot.spot a c.base-base.result c.base-base.ensures)

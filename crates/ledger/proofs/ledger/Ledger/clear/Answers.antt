@@ -18,10 +18,10 @@ use Rattle.ledger.proofs.ledger.Ledger.clear.Goals as goal
 pub returns : goal.returns
 returns g c =
     let st : State = state g.B.Allocator.meaning c.args.self.now c.args.region.now in
-    link.edited st (parts c.args.self.now.allocator) c.args.h c.in-ok-spot.spot c.in-ok-spot.ensures (Clear c.args.h) (λ l. []) refl refl (λ l. with_len l 0) (λ st' q. (refl, q)) c.with_len.result (lines_of c.put.new.self) refl c.with_len.ensures (ap (λ (z : Line). z.serial) c.with_len.ensures) c.put.ensures
+    link.edited st (parts c.args.self.now.allocator) c.args.h c.in_ok-spot.spot c.in_ok-spot.ensures (Clear c.args.h) (λ l. []) refl refl (λ l. with_len l 0) (λ st' q. (refl, q)) c.with_len.result (lines_of c.put.new.self) refl c.with_len.ensures (ap (λ (z : Line). z.serial) c.with_len.ensures) c.put.ensures
 
-pub invariant-of-self : goal.invariant-of-self
-invariant-of-self g c =
+pub invariant_of-self : goal.invariant_of-self
+invariant_of-self g c =
     let st : State = state g.B.Allocator.meaning c.args.self.now c.args.region.now in
-    after st (parts c.args.self.now.allocator) c.in-ok-spot.ensures.ready (Clear c.args.h) 0 (over st (lines_of c.put.new.self) st.meaning st.bytes) (parts c.args.self.now.allocator) tt
-    (link.edited st (parts c.args.self.now.allocator) c.args.h c.in-ok-spot.spot c.in-ok-spot.ensures (Clear c.args.h) (λ l. []) refl refl (λ l. with_len l 0) (λ st' q. (refl, q)) c.with_len.result (lines_of c.put.new.self) refl c.with_len.ensures (ap (λ (z : Line). z.serial) c.with_len.ensures) c.put.ensures) c.in-ok-spot.ensures.ready.tie
+    after st (parts c.args.self.now.allocator) c.in_ok-spot.ensures.ready (Clear c.args.h) 0 (over st (lines_of c.put.new.self) st.meaning st.bytes) (parts c.args.self.now.allocator) tt
+    (link.edited st (parts c.args.self.now.allocator) c.args.h c.in_ok-spot.spot c.in_ok-spot.ensures (Clear c.args.h) (λ l. []) refl refl (λ l. with_len l 0) (λ st' q. (refl, q)) c.with_len.result (lines_of c.put.new.self) refl c.with_len.ensures (ap (λ (z : Line). z.serial) c.with_len.ensures) c.put.ensures) c.in_ok-spot.ensures.ready.tie

@@ -18,10 +18,10 @@ use Rattle.ledger.proofs.ledger.Ledger.freeze.Goals as goal
 pub returns : goal.returns
 returns g c =
     let st : State = state g.B.Allocator.meaning c.args.self.now c.args.region.now in
-    link.edited st (parts c.args.self.now.allocator) c.args.h c.in-ok-spot.spot c.in-ok-spot.ensures (Freeze c.args.h) (λ l. []) (ap (uses c.args.h) c.requires.mutable) refl (λ l. frozen l) (λ st' q. (refl, q)) c.frozen.result (lines_of c.put.new.self) refl c.frozen.ensures (ap (λ (z : Line). z.serial) c.frozen.ensures) c.put.ensures
+    link.edited st (parts c.args.self.now.allocator) c.args.h c.in_ok-spot.spot c.in_ok-spot.ensures (Freeze c.args.h) (λ l. []) (ap (uses c.args.h) c.requires.mutable) refl (λ l. frozen l) (λ st' q. (refl, q)) c.frozen.result (lines_of c.put.new.self) refl c.frozen.ensures (ap (λ (z : Line). z.serial) c.frozen.ensures) c.put.ensures
 
-pub invariant-of-self : goal.invariant-of-self
-invariant-of-self g c =
+pub invariant_of-self : goal.invariant_of-self
+invariant_of-self g c =
     let st : State = state g.B.Allocator.meaning c.args.self.now c.args.region.now in
-    after st (parts c.args.self.now.allocator) c.in-ok-spot.ensures.ready (Freeze c.args.h) 0 (over st (lines_of c.put.new.self) st.meaning st.bytes) (parts c.args.self.now.allocator) tt
-    (link.edited st (parts c.args.self.now.allocator) c.args.h c.in-ok-spot.spot c.in-ok-spot.ensures (Freeze c.args.h) (λ l. []) (ap (uses c.args.h) c.requires.mutable) refl (λ l. frozen l) (λ st' q. (refl, q)) c.frozen.result (lines_of c.put.new.self) refl c.frozen.ensures (ap (λ (z : Line). z.serial) c.frozen.ensures) c.put.ensures) c.in-ok-spot.ensures.ready.tie
+    after st (parts c.args.self.now.allocator) c.in_ok-spot.ensures.ready (Freeze c.args.h) 0 (over st (lines_of c.put.new.self) st.meaning st.bytes) (parts c.args.self.now.allocator) tt
+    (link.edited st (parts c.args.self.now.allocator) c.args.h c.in_ok-spot.spot c.in_ok-spot.ensures (Freeze c.args.h) (λ l. []) (ap (uses c.args.h) c.requires.mutable) refl (λ l. frozen l) (λ st' q. (refl, q)) c.frozen.result (lines_of c.put.new.self) refl c.frozen.ensures (ap (λ (z : Line). z.serial) c.frozen.ensures) c.put.ensures) c.in_ok-spot.ensures.ready.tie

@@ -15,18 +15,18 @@ use Rattle.ledger.proofs.LineEdits as link
 use Rattle.ledger.proofs.Ties.{after}
 use Rattle.ledger.proofs.ledger.Ledger.into_byte_buffer.Goals as goal
 
-pub into-bytes-requires : goal.into-bytes-requires
-into-bytes-requires g c =
+pub into_bytes-requires : goal.into_bytes-requires
+into_bytes-requires g c =
     let st : State = state g.B.Allocator.meaning c.args.self.now c.args.region.now in
-    link.bytes_fit st (parts c.args.self.now.allocator) c.args.h c.in-ok-spot.spot c.in-ok-spot.ensures
+    link.bytes_fit st (parts c.args.self.now.allocator) c.args.h c.in_ok-spot.spot c.in_ok-spot.ensures
 
 pub returns : goal.returns
 returns g c =
     let st : State = state g.B.Allocator.meaning c.args.self.now c.args.region.now in
-    link.edited st (parts c.args.self.now.allocator) c.args.h c.in-ok-spot.spot c.in-ok-spot.ensures (IntoBytes c.args.h) (λ l. []) refl refl (λ l. regrouped l byte (l.len * l.kind.width) (l.capacity * l.kind.width) l.claim) (λ st' q. (refl, q)) c.into-bytes.result (lines_of c.put.new.self) refl c.into-bytes.ensures (ap (λ (z : Line). z.serial) c.into-bytes.ensures) c.put.ensures
+    link.edited st (parts c.args.self.now.allocator) c.args.h c.in_ok-spot.spot c.in_ok-spot.ensures (IntoBytes c.args.h) (λ l. []) refl refl (λ l. regrouped l byte (l.len * l.kind.width) (l.capacity * l.kind.width) l.claim) (λ st' q. (refl, q)) c.into_bytes.result (lines_of c.put.new.self) refl c.into_bytes.ensures (ap (λ (z : Line). z.serial) c.into_bytes.ensures) c.put.ensures
 
-pub invariant-of-self : goal.invariant-of-self
-invariant-of-self g c =
+pub invariant_of-self : goal.invariant_of-self
+invariant_of-self g c =
     let st : State = state g.B.Allocator.meaning c.args.self.now c.args.region.now in
-    after st (parts c.args.self.now.allocator) c.in-ok-spot.ensures.ready (IntoBytes c.args.h) 0 (over st (lines_of c.put.new.self) st.meaning st.bytes) (parts c.args.self.now.allocator) tt
-    (link.edited st (parts c.args.self.now.allocator) c.args.h c.in-ok-spot.spot c.in-ok-spot.ensures (IntoBytes c.args.h) (λ l. []) refl refl (λ l. regrouped l byte (l.len * l.kind.width) (l.capacity * l.kind.width) l.claim) (λ st' q. (refl, q)) c.into-bytes.result (lines_of c.put.new.self) refl c.into-bytes.ensures (ap (λ (z : Line). z.serial) c.into-bytes.ensures) c.put.ensures) c.in-ok-spot.ensures.ready.tie
+    after st (parts c.args.self.now.allocator) c.in_ok-spot.ensures.ready (IntoBytes c.args.h) 0 (over st (lines_of c.put.new.self) st.meaning st.bytes) (parts c.args.self.now.allocator) tt
+    (link.edited st (parts c.args.self.now.allocator) c.args.h c.in_ok-spot.spot c.in_ok-spot.ensures (IntoBytes c.args.h) (λ l. []) refl refl (λ l. regrouped l byte (l.len * l.kind.width) (l.capacity * l.kind.width) l.claim) (λ st' q. (refl, q)) c.into_bytes.result (lines_of c.put.new.self) refl c.into_bytes.ensures (ap (λ (z : Line). z.serial) c.into_bytes.ensures) c.put.ensures) c.in_ok-spot.ensures.ready.tie

@@ -11,8 +11,8 @@ use Rattle.ledger.specs.View.{opened}
 use Rattle.ledger.proofs.Ties.{fresh, opened_is, served, starts}
 use Rattle.ledger.proofs.ledger.Ledger.new.Goals as goal
 
-pub invariant-of-result : goal.invariant-of-result
-invariant-of-result g c =
+pub invariant_of-result : goal.invariant_of-result
+invariant_of-result g c =
     let ok = served (g.B.Allocator.meaning c.args.allocator) (sym c.serves.ensures ∙ c.if-not-serves.false) in
     fresh (g.B.Allocator.meaning c.args.allocator) (parts c.new.result) _ ok.0 ok.1 (ap parts c.new.ensures ∙ same_model (plain_of (g.B.Allocator.meaning c.args.allocator))) c.new-2.ensures
 

@@ -7,8 +7,8 @@ use Rattle.ledger.specs.Making.{plan_checks}
 use Rattle.ledger.specs.View.{state}
 use Rattle.ledger.proofs.ledger.Ledger.plans.Goals as goal
 
-pub returns-in-err-serial : goal.returns-in-err-serial
-returns-in-err-serial g c =
+pub returns-in_err-serial : goal.returns-in_err-serial
+returns-in_err-serial g c =
     let st : State = state g.B.Allocator.meaning c.args.self.now c.args.region.now in
-    let p = err_from_is_err_and c.from-residual.result c.from-residual.ensures.1 in
-    rw (p.1, p.2) (stops (opening st) (plan_checks c.args.kind c.args.count c.args.claim (max c.args.claim c.args.preferred)) _ c.in-err-serial.ensures)
+    let p = err_from_is_err_and c.from_residual.result c.from_residual.ensures.1 in
+    rw (p.1, p.2) (stops (opening st) (plan_checks c.args.kind c.args.count c.args.claim (max c.args.claim c.args.preferred)) _ c.in_err-serial.ensures)

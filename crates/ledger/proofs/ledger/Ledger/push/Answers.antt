@@ -13,40 +13,40 @@ use Rattle.ledger.proofs.Makes.{joined_map, even_map, even_replicate, length_map
 use Rattle.ledger.proofs.Ties.{after}
 use Rattle.ledger.proofs.ledger.Ledger.push.Goals as goal
 
-pub returns-in-err-spot : goal.returns-in-err-spot
-returns-in-err-spot g c =
+pub returns-in_err-spot : goal.returns-in_err-spot
+returns-in_err-spot g c =
     let st : State = state g.B.Allocator.meaning c.args.self.now c.args.region.now in
-    let mid : State = state g.B.Allocator.meaning c.make-room.new.self c.make-room.new.region in
+    let mid : State = state g.B.Allocator.meaning c.make_room.new.self c.make_room.new.region in
     let vs : List (List ℕ) = (g.K.Element.pattern c.args.value.now) ∷ [] in
-    let p = err_from_is_err_and c.from-residual.result c.from-residual.ensures.1 in
-    rw (p.1, p.2) (link.append_refused st c.args.h 1 vs _ mid refl c.in-err-spot.ensures)
+    let p = err_from_is_err_and c.from_residual.result c.from_residual.ensures.1 in
+    rw (p.1, p.2) (link.append_refused st c.args.h 1 vs _ mid refl c.in_err-spot.ensures)
 
-pub write-one-behind-requires : goal.write-one-behind-requires
-write-one-behind-requires g c =
+pub write_one_behind-requires : goal.write_one_behind-requires
+write_one_behind-requires g c =
     let st : State = state g.B.Allocator.meaning c.args.self.now c.args.region.now in
-    let mid : State = state g.B.Allocator.meaning c.make-room.new.self c.make-room.new.region in
-    record { inside = link.behind st (parts c.args.self.now.allocator) c.args.h 1 c.in-ok-spot.spot mid (parts c.make-room.new.self.allocator) c.in-ok-spot.ensures c.base.result (length c.make-room.new.region) c.base.ensures refl; wide = link.same_width st (parts c.args.self.now.allocator) c.args.h 1 c.in-ok-spot.spot mid (parts c.make-room.new.self.allocator) c.in-ok-spot.ensures g.K.Element.width c.requires.wide }
+    let mid : State = state g.B.Allocator.meaning c.make_room.new.self c.make_room.new.region in
+    record { inside = link.behind st (parts c.args.self.now.allocator) c.args.h 1 c.in_ok-spot.spot mid (parts c.make_room.new.self.allocator) c.in_ok-spot.ensures c.base.result (length c.make_room.new.region) c.base.ensures refl; wide = link.same_width st (parts c.args.self.now.allocator) c.args.h 1 c.in_ok-spot.spot mid (parts c.make_room.new.self.allocator) c.in_ok-spot.ensures g.K.Element.width c.requires.wide }
 
-pub overflow-add-spot : goal.overflow-add-spot
-overflow-add-spot g c =
+pub overflow_add-spot : goal.overflow_add-spot
+overflow_add-spot g c =
     let st : State = state g.B.Allocator.meaning c.args.self.now c.args.region.now in
-    let mid : State = state g.B.Allocator.meaning c.make-room.new.self c.make-room.new.region in
-    record { fits = link.count_fits st (parts c.args.self.now.allocator) c.args.h 1 c.in-ok-spot.spot mid (parts c.make-room.new.self.allocator) c.in-ok-spot.ensures }
+    let mid : State = state g.B.Allocator.meaning c.make_room.new.self c.make_room.new.region in
+    record { fits = link.count_fits st (parts c.args.self.now.allocator) c.args.h 1 c.in_ok-spot.spot mid (parts c.make_room.new.self.allocator) c.in_ok-spot.ensures }
 
 pub returns : goal.returns
 returns g c =
     let st : State = state g.B.Allocator.meaning c.args.self.now c.args.region.now in
-    let mid : State = state g.B.Allocator.meaning c.make-room.new.self c.make-room.new.region in
+    let mid : State = state g.B.Allocator.meaning c.make_room.new.self c.make_room.new.region in
     let vs : List (List ℕ) = (g.K.Element.pattern c.args.value.now) ∷ [] in
-    link.appends st (parts c.args.self.now.allocator) c.args.h 1 c.in-ok-spot.spot mid (parts c.make-room.new.self.allocator) c.in-ok-spot.ensures vs c.base.result c.write-one-behind.new.region c.with_len.result (lines_of c.put.new.self) refl c.base.ensures
-    (c.write-one-behind.ensures ∙ ap (λ bs. overwrite (c.in-ok-spot.spot.line.start - c.base.result + c.in-ok-spot.spot.line.len * c.in-ok-spot.spot.line.kind.width) bs c.make-room.new.region) (link.joined_one (g.K.Element.pattern c.args.value.now))) c.with_len.ensures c.put.ensures
+    link.appends st (parts c.args.self.now.allocator) c.args.h 1 c.in_ok-spot.spot mid (parts c.make_room.new.self.allocator) c.in_ok-spot.ensures vs c.base.result c.write_one_behind.new.region c.with_len.result (lines_of c.put.new.self) refl c.base.ensures
+    (c.write_one_behind.ensures ∙ ap (λ bs. overwrite (c.in_ok-spot.spot.line.start - c.base.result + c.in_ok-spot.spot.line.len * c.in_ok-spot.spot.line.kind.width) bs c.make_room.new.region) (link.joined_one (g.K.Element.pattern c.args.value.now))) c.with_len.ensures c.put.ensures
 
-pub invariant-of-self : goal.invariant-of-self
-invariant-of-self g c =
+pub invariant_of-self : goal.invariant_of-self
+invariant_of-self g c =
     let st : State = state g.B.Allocator.meaning c.args.self.now c.args.region.now in
-    let mid : State = state g.B.Allocator.meaning c.make-room.new.self c.make-room.new.region in
+    let mid : State = state g.B.Allocator.meaning c.make_room.new.self c.make_room.new.region in
     let vs : List (List ℕ) = (g.K.Element.pattern c.args.value.now) ∷ [] in
     let even : Even c.args.h.kind.width vs = subst (λ (w : ℕ). Even w vs) (sym c.requires.wide) (link.even_one g.K.Element.width (g.K.Element.pattern c.args.value.now) (g.met.K.Element.faithful.long c.args.value.now)) in
-    after st (parts c.args.self.now.allocator) c.in-ok-spot.ensures.ready (Append c.args.h vs) 0 (over mid (lines_of c.put.new.self) mid.meaning c.write-one-behind.new.region) (parts c.make-room.new.self.allocator) even
-    (link.appends st (parts c.args.self.now.allocator) c.args.h 1 c.in-ok-spot.spot mid (parts c.make-room.new.self.allocator) c.in-ok-spot.ensures vs c.base.result c.write-one-behind.new.region c.with_len.result (lines_of c.put.new.self) refl c.base.ensures
-    (c.write-one-behind.ensures ∙ ap (λ bs. overwrite (c.in-ok-spot.spot.line.start - c.base.result + c.in-ok-spot.spot.line.len * c.in-ok-spot.spot.line.kind.width) bs c.make-room.new.region) (link.joined_one (g.K.Element.pattern c.args.value.now))) c.with_len.ensures c.put.ensures) c.in-ok-spot.ensures.still.tie
+    after st (parts c.args.self.now.allocator) c.in_ok-spot.ensures.ready (Append c.args.h vs) 0 (over mid (lines_of c.put.new.self) mid.meaning c.write_one_behind.new.region) (parts c.make_room.new.self.allocator) even
+    (link.appends st (parts c.args.self.now.allocator) c.args.h 1 c.in_ok-spot.spot mid (parts c.make_room.new.self.allocator) c.in_ok-spot.ensures vs c.base.result c.write_one_behind.new.region c.with_len.result (lines_of c.put.new.self) refl c.base.ensures
+    (c.write_one_behind.ensures ∙ ap (λ bs. overwrite (c.in_ok-spot.spot.line.start - c.base.result + c.in_ok-spot.spot.line.len * c.in_ok-spot.spot.line.kind.width) bs c.make_room.new.region) (link.joined_one (g.K.Element.pattern c.args.value.now))) c.with_len.ensures c.put.ensures) c.in_ok-spot.ensures.still.tie

@@ -8,4 +8,4 @@ use Rattle.ledger.proofs.ledger.Ledger.read.Goals as goal
 pub returns : goal.returns
 returns g c =
     let st : State = state g.B.Allocator.meaning c.args.self.now c.args.region.now in
-    (told st c.args.h c.in-ok-spot.ensures.passed, is_line st (parts c.args.self.now.allocator) c.args.h c.in-ok-spot.spot c.in-ok-spot.ensures)
+    (told st c.args.h c.in_ok-spot.ensures.passed, is_line st (parts c.args.self.now.allocator) c.args.h c.in_ok-spot.spot c.in_ok-spot.ensures)

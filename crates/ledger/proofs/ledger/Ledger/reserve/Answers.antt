@@ -1,4 +1,4 @@
 use Rattle.ledger.proofs.ledger.Ledger.reserve.Goals as goal
 
 pub returns : goal.returns
-returns g c = c.in-ok-make-room.ensures.grants
+returns g c = c.in_ok-make_room.ensures.grants

@@ -13,24 +13,24 @@ use Rattle.ledger.proofs.Hands as link
 use Rattle.ledger.proofs.Ties.{after}
 use Rattle.ledger.proofs.ledger.Ledger.share.Goals as goal
 
-pub returns-in-err-serial : goal.returns-in-err-serial
-returns-in-err-serial g c =
+pub returns-in_err-serial : goal.returns-in_err-serial
+returns-in_err-serial g c =
     let st : State = state g.B.Allocator.meaning c.args.self.now c.args.region.now in
-    let p = err_from_is_err_and c.from-residual-in-err-serial.result c.from-residual-in-err-serial.ensures.1 in
-    rw (p.1, p.2) (unfree st c.args.h (Share c.args.h) _ (ap (λ b. makes_from c.args.h (not b)) c.requires.shared) c.in-ok-spot.ensures.passed c.in-err-serial.ensures, refl)
+    let p = err_from_is_err_and c.from_residual-in_err-serial.result c.from_residual-in_err-serial.ensures.1 in
+    rw (p.1, p.2) (unfree st c.args.h (Share c.args.h) _ (ap (λ b. makes_from c.args.h (not b)) c.requires.shared) c.in_ok-spot.ensures.passed c.in_err-serial.ensures, refl)
 
 pub add-requires : goal.add-requires
 add-requires g c =
     let st : State = state g.B.Allocator.meaning c.args.self.now c.args.region.now in
-    link.still_few st.lines (lines_of c.put.new.self) c.in-ok-spot.spot.place c.with-backing-first.result c.put.ensures c.in-ok-serial.ensures.1.few
+    link.still_few st.lines (lines_of c.put.new.self) c.in_ok-spot.spot.place c.with_backing-first.result c.put.ensures c.in_ok-serial.ensures.1.few
 
 pub returns : goal.returns
 returns g c =
     let st : State = state g.B.Allocator.meaning c.args.self.now c.args.region.now in
-    link.shares st (parts c.args.self.now.allocator) c.args.h c.in-ok-spot.spot c.in-ok-spot.ensures c.in-ok-serial.serial c.in-ok-serial.ensures.1 c.in-ok-serial.ensures.0 c.with-backing-first.result c.with-serial-second.result (lines_of c.put.new.self) (lines_of c.add.new.self) (ap (λ b. makes_from c.args.h (not b)) c.requires.shared) (c.with-backing-first.ensures ∙ ap (with_backing c.in-ok-spot.spot.line) c.shared_with.ensures) c.with-serial-second.ensures c.put.ensures c.add.ensures
+    link.shares st (parts c.args.self.now.allocator) c.args.h c.in_ok-spot.spot c.in_ok-spot.ensures c.in_ok-serial.serial c.in_ok-serial.ensures.1 c.in_ok-serial.ensures.0 c.with_backing-first.result c.with_serial-second.result (lines_of c.put.new.self) (lines_of c.add.new.self) (ap (λ b. makes_from c.args.h (not b)) c.requires.shared) (c.with_backing-first.ensures ∙ ap (with_backing c.in_ok-spot.spot.line) c.shared_with.ensures) c.with_serial-second.ensures c.put.ensures c.add.ensures
 
-pub invariant-of-self : goal.invariant-of-self
-invariant-of-self g c =
+pub invariant_of-self : goal.invariant_of-self
+invariant_of-self g c =
     let st : State = state g.B.Allocator.meaning c.args.self.now c.args.region.now in
-    after st (parts c.args.self.now.allocator) c.in-ok-spot.ensures.ready (Share c.args.h) c.in-ok-serial.serial (over_next st (lines_of c.add.new.self) st.meaning st.bytes) (parts c.args.self.now.allocator) tt
-    (link.shares st (parts c.args.self.now.allocator) c.args.h c.in-ok-spot.spot c.in-ok-spot.ensures c.in-ok-serial.serial c.in-ok-serial.ensures.1 c.in-ok-serial.ensures.0 c.with-backing-first.result c.with-serial-second.result (lines_of c.put.new.self) (lines_of c.add.new.self) (ap (λ b. makes_from c.args.h (not b)) c.requires.shared) (c.with-backing-first.ensures ∙ ap (with_backing c.in-ok-spot.spot.line) c.shared_with.ensures) c.with-serial-second.ensures c.put.ensures c.add.ensures) c.in-ok-spot.ensures.ready.tie
+    after st (parts c.args.self.now.allocator) c.in_ok-spot.ensures.ready (Share c.args.h) c.in_ok-serial.serial (over_next st (lines_of c.add.new.self) st.meaning st.bytes) (parts c.args.self.now.allocator) tt
+    (link.shares st (parts c.args.self.now.allocator) c.args.h c.in_ok-spot.spot c.in_ok-spot.ensures c.in_ok-serial.serial c.in_ok-serial.ensures.1 c.in_ok-serial.ensures.0 c.with_backing-first.result c.with_serial-second.result (lines_of c.put.new.self) (lines_of c.add.new.self) (ap (λ b. makes_from c.args.h (not b)) c.requires.shared) (c.with_backing-first.ensures ∙ ap (with_backing c.in_ok-spot.spot.line) c.shared_with.ensures) c.with_serial-second.ensures c.put.ensures c.add.ensures) c.in_ok-spot.ensures.ready.tie

@@ -13,24 +13,24 @@ use Rattle.ledger.proofs.Hands as link
 use Rattle.ledger.proofs.Ties.{after}
 use Rattle.ledger.proofs.ledger.Ledger.take.Goals as goal
 
-pub returns-in-err-serial : goal.returns-in-err-serial
-returns-in-err-serial g c =
+pub returns-in_err-serial : goal.returns-in_err-serial
+returns-in_err-serial g c =
     let st : State = state g.B.Allocator.meaning c.args.self.now c.args.region.now in
-    let p = err_from_is_err_and c.from-residual-in-err-serial.result c.from-residual-in-err-serial.ensures.1 in
-    rw (p.1, p.2) (unfree st c.args.h (Take c.args.h) _ (ap (makes_from c.args.h) c.requires.mutable) c.in-ok-spot.ensures.passed c.in-err-serial.ensures, refl)
+    let p = err_from_is_err_and c.from_residual-in_err-serial.result c.from_residual-in_err-serial.ensures.1 in
+    rw (p.1, p.2) (unfree st c.args.h (Take c.args.h) _ (ap (makes_from c.args.h) c.requires.mutable) c.in_ok-spot.ensures.passed c.in_err-serial.ensures, refl)
 
 pub add-requires : goal.add-requires
 add-requires g c =
     let st : State = state g.B.Allocator.meaning c.args.self.now c.args.region.now in
-    link.still_few st.lines (lines_of c.put.new.self) c.in-ok-spot.spot.place c.empty-line-left.result c.put.ensures c.in-ok-serial.ensures.1.few
+    link.still_few st.lines (lines_of c.put.new.self) c.in_ok-spot.spot.place c.empty_line-left.result c.put.ensures c.in_ok-serial.ensures.1.few
 
 pub returns : goal.returns
 returns g c =
     let st : State = state g.B.Allocator.meaning c.args.self.now c.args.region.now in
-    link.taken st (parts c.args.self.now.allocator) c.args.h c.in-ok-spot.spot c.in-ok-spot.ensures c.in-ok-serial.serial c.in-ok-serial.ensures.1 c.in-ok-serial.ensures.0 c.empty-line-left.result c.with-serial-taken.result (lines_of c.put.new.self) (lines_of c.add.new.self) (ap (makes_from c.args.h) c.requires.mutable) c.empty-line-left.ensures c.with-serial-taken.ensures c.put.ensures c.add.ensures
+    link.taken st (parts c.args.self.now.allocator) c.args.h c.in_ok-spot.spot c.in_ok-spot.ensures c.in_ok-serial.serial c.in_ok-serial.ensures.1 c.in_ok-serial.ensures.0 c.empty_line-left.result c.with_serial-taken.result (lines_of c.put.new.self) (lines_of c.add.new.self) (ap (makes_from c.args.h) c.requires.mutable) c.empty_line-left.ensures c.with_serial-taken.ensures c.put.ensures c.add.ensures
 
-pub invariant-of-self : goal.invariant-of-self
-invariant-of-self g c =
+pub invariant_of-self : goal.invariant_of-self
+invariant_of-self g c =
     let st : State = state g.B.Allocator.meaning c.args.self.now c.args.region.now in
-    after st (parts c.args.self.now.allocator) c.in-ok-spot.ensures.ready (Take c.args.h) c.in-ok-serial.serial (over_next st (lines_of c.add.new.self) st.meaning st.bytes) (parts c.args.self.now.allocator) tt
-    (link.taken st (parts c.args.self.now.allocator) c.args.h c.in-ok-spot.spot c.in-ok-spot.ensures c.in-ok-serial.serial c.in-ok-serial.ensures.1 c.in-ok-serial.ensures.0 c.empty-line-left.result c.with-serial-taken.result (lines_of c.put.new.self) (lines_of c.add.new.self) (ap (makes_from c.args.h) c.requires.mutable) c.empty-line-left.ensures c.with-serial-taken.ensures c.put.ensures c.add.ensures) c.in-ok-spot.ensures.ready.tie
+    after st (parts c.args.self.now.allocator) c.in_ok-spot.ensures.ready (Take c.args.h) c.in_ok-serial.serial (over_next st (lines_of c.add.new.self) st.meaning st.bytes) (parts c.args.self.now.allocator) tt
+    (link.taken st (parts c.args.self.now.allocator) c.args.h c.in_ok-spot.spot c.in_ok-spot.ensures c.in_ok-serial.serial c.in_ok-serial.ensures.1 c.in_ok-serial.ensures.0 c.empty_line-left.result c.with_serial-taken.result (lines_of c.put.new.self) (lines_of c.add.new.self) (ap (makes_from c.args.h) c.requires.mutable) c.empty_line-left.ensures c.with_serial-taken.ensures c.put.ensures c.add.ensures) c.in_ok-spot.ensures.ready.tie

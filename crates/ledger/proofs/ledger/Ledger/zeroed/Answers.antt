@@ -11,23 +11,23 @@ use Rattle.ledger.proofs.Makes.{makes}
 use Rattle.ledger.proofs.Ties.{after}
 use Rattle.ledger.proofs.ledger.Ledger.zeroed.Goals as goal
 
-pub invariant-of-self-2 : goal.invariant-of-self-2
-invariant-of-self-2 g c =
+pub invariant_of-self-2 : goal.invariant_of-self-2
+invariant_of-self-2 g c =
     let st : State = state g.B.Allocator.meaning c.args.self.now c.args.region.now in
-    let st' : State = over_next st (lines_of c.add.new.self) (g.B.Allocator.meaning c.obtain-zeroed-obtained.new.allocator.allocator) c.obtain-zeroed-obtained.new.region in
-    let pl = c.in-ok-plan.ensures in
-    let got = c.in-ok-got.ensures in
+    let st' : State = over_next st (lines_of c.add.new.self) (g.B.Allocator.meaning c.obtain_zeroed-obtained.new.allocator.allocator) c.obtain_zeroed-obtained.new.region in
+    let pl = c.in_ok-plan.ensures in
+    let got = c.in_ok-got.ensures in
     let call : Call = Zeroed c.args.kind c.args.mutable c.args.len c.args.claim c.args.preferred in
-    let a : Grants st call c.in-ok-plan.plan.serial st' =
-    makes st (parts c.args.self.now.allocator) c.args.kind c.args.len c.args.claim c.args.preferred c.in-ok-plan.plan pl call refl refl
-    c.args.mutable c.args.len (λ got. zeros_in got c.args.region.now) (λ g st' d. d) c.in-ok-got.got (g.B.Allocator.meaning c.obtain-zeroed-obtained.new.allocator.allocator) c.planned-line.result (lines_of c.add.new.self) c.obtain-zeroed-obtained.new.region got.0 got.1 c.planned-line.ensures c.add.ensures got.2 in
-    after st (parts c.args.self.now.allocator) pl.opened.ready call c.in-ok-plan.plan.serial st' (parts c.obtain-zeroed-obtained.new.allocator) (c.requires.fair.kind, c.requires.fair.claims, c.requires.fair.prefers) a c.tell.ensures
+    let a : Grants st call c.in_ok-plan.plan.serial st' =
+    makes st (parts c.args.self.now.allocator) c.args.kind c.args.len c.args.claim c.args.preferred c.in_ok-plan.plan pl call refl refl
+    c.args.mutable c.args.len (λ got. zeros_in got c.args.region.now) (λ g st' d. d) c.in_ok-got.got (g.B.Allocator.meaning c.obtain_zeroed-obtained.new.allocator.allocator) c.planned_line.result (lines_of c.add.new.self) c.obtain_zeroed-obtained.new.region got.0 got.1 c.planned_line.ensures c.add.ensures got.2 in
+    after st (parts c.args.self.now.allocator) pl.opened.ready call c.in_ok-plan.plan.serial st' (parts c.obtain_zeroed-obtained.new.allocator) (c.requires.fair.kind, c.requires.fair.claims, c.requires.fair.prefers) a c.tell.ensures
 
 pub returns : goal.returns
 returns g c =
     let st : State = state g.B.Allocator.meaning c.args.self.now c.args.region.now in
-    let pl = c.in-ok-plan.ensures in
-    let got = c.in-ok-got.ensures in
+    let pl = c.in_ok-plan.ensures in
+    let got = c.in_ok-got.ensures in
     let call : Call = Zeroed c.args.kind c.args.mutable c.args.len c.args.claim c.args.preferred in
-    makes st (parts c.args.self.now.allocator) c.args.kind c.args.len c.args.claim c.args.preferred c.in-ok-plan.plan pl call refl refl
-    c.args.mutable c.args.len (λ got. zeros_in got c.args.region.now) (λ g st' d. d) c.in-ok-got.got (g.B.Allocator.meaning c.obtain-zeroed-obtained.new.allocator.allocator) c.planned-line.result (lines_of c.add.new.self) c.obtain-zeroed-obtained.new.region got.0 got.1 c.planned-line.ensures c.add.ensures got.2
+    makes st (parts c.args.self.now.allocator) c.args.kind c.args.len c.args.claim c.args.preferred c.in_ok-plan.plan pl call refl refl
+    c.args.mutable c.args.len (λ got. zeros_in got c.args.region.now) (λ g st' d. d) c.in_ok-got.got (g.B.Allocator.meaning c.obtain_zeroed-obtained.new.allocator.allocator) c.planned_line.result (lines_of c.add.new.self) c.obtain_zeroed-obtained.new.region got.0 got.1 c.planned_line.ensures c.add.ensures got.2

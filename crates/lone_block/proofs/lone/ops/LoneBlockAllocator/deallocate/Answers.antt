@@ -5,4 +5,4 @@ use Rattle.lone_block.proofs.lone.ops.LoneBlockAllocator.deallocate.Goals as goa
 pub returns : goal.returns
 returns c =
     let a = c.args.self.now in
-    record { outcome = (search rules, freed a.base a.extent a.long a.live c.args.block (sym c.if-not-is-live.ensures)) }
+    record { outcome = (search rules, freed a.base a.extent a.long a.live c.args.block (sym c.if-not-is_live.ensures)) }
