@@ -40,9 +40,13 @@ module _ (st : State) (h : Handle) (c : Call) where
   pub unfree : (f : Fault) → brings c ≡ bringing (h ∷ []) true → refusal (entry st h) ≡ None → refusal (handle_check st) ≡ Some f → refusal (checks st (length st.bytes) c) ≡ Some f
   unfree f e p q = ap (λ (b : Brings). refusal (behind st b (own st c))) e ∙ passes (entry st h) (handle_check st ++ own st c) p ∙ stops (handle_check st) (own st c) f q
 
+-- a reading that no check refuses
+pub granted_reading : (st : State) (h : Handle) → refusal (checks st (length st.bytes) (read h)) ≡ None → Grants st (read h) 0 st
+granted_reading st h p = (done, refl, (p, (refl, refl)))
+
 -- reading a handle that the store knows
 pub told : (st : State) (h : Handle) → refusal (entry st h) ≡ None → Grants st (read h) 0 st
-told st h p = (done, refl, (used st h (read h) refl p, (refl, refl)))
+told st h p = granted_reading st h (used st h (read h) refl p)
 
 -- a call that brings no handle and makes one
 module _ (st : State) (c : Call) (e : brings c ≡ bringing [] true) where

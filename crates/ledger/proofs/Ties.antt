@@ -20,6 +20,10 @@ use Rattle.ledger.specs.Results.{Grants}
 use Rattle.ledger.specs.View.{opened}
 use Rattle.ledger.proofs.Fixing.{fixed_by}
 
+-- the ghost fields of a ledger
+abbrev pub Fields : ℕ → List Line → Plain → Type 0
+Fields next ls p = record { sure : ∥ Sure next ls p ∥₁; limits : Limits p }
+
 -- what the fields say, at a region of the allocator's length
 pub readied : (st : State) (p : Plain) → Lawful st.meaning → length st.bytes ≡ st.meaning.extent → ∥ Sure st.next st.lines p ∥₁ → Limits p → plain_of st.meaning ≡ p → Ready st p
 readied st p law long t lim tie = record {
@@ -39,24 +43,24 @@ module _ (st : State) (p : Plain) (r : Ready st p) where
   limited = subst Limits (sym r.tie) r.limits
 
   -- the fields after a call
-  pub after : (c : Call) (s : ℕ) (st' : State) (p' : Plain) → Sound c → Grants st c s st' → plain_of st'.meaning ≡ p' → ∥ Sure st'.next st'.lines p' ∥₁ × (Limits p' × Unit {0})
+  pub after : (c : Call) (s : ℕ) (st' : State) (p' : Plain) → Sound c → Grants st c s st' → plain_of st'.meaning ≡ p' → Fields st'.next st'.lines p'
   after c s st' p' sound q e =
       let f : Fixed st.meaning st'.meaning = fixed_by st (length st.bytes) c (granted q.0) st' q.2 in
       let l : Limits (plain_of st'.meaning) = (omega (arith, limited.0, f.base), omega (arith, limited.1, f.base), omega (arith, limited.2, f.extent), omega (arith, limited.3, f.extent)) in
-      (∣ subst (Sure st'.next st'.lines) e (keeps_sure st (length st.bytes) c (granted q.0) st' r.lawful refl sound q.2 r.sure) ∣₁, (subst Limits e l, tt))
+      record { sure = ∣ subst (Sure st'.next st'.lines) e (keeps_sure st (length st.bytes) c (granted q.0) st' r.lawful refl sound q.2 r.sure) ∣₁; limits = subst Limits e l }
 
   -- what the fields give, after a call
   pub ready_after : (c : Call) (s : ℕ) (st' : State) (p' : Plain) → Sound c → Grants st c s st' → plain_of st'.meaning ≡ p' → Ready st' p'
   ready_after c s st' p' sound q e =
       let w = well_inv st' (well_on st (length st.bytes) c (granted q.0) st' well sound q.2) in
       let f = after c s st' p' sound q e in
-      readied st' p' w.law w.long f.0 f.1.0 e
+      readied st' p' w.law w.long f.sure f.limits e
 
   -- nothing changed but, perhaps, the value that is held
-  pub same : (m : Meaning) (p' : Plain) → m ≡ st.meaning → plain_of m ≡ p' → ∥ Sure st.next st.lines p' ∥₁ × (Limits p' × Unit {0})
+  pub same : (m : Meaning) (p' : Plain) → m ≡ st.meaning → plain_of m ≡ p' → Fields st.next st.lines p'
   same m p' e tie' =
       let q : p ≡ p' = sym r.tie ∙ ap plain_of (sym e) ∙ tie' in
-      (∣ subst (Sure st.next st.lines) (r.tie ∙ q) r.sure ∣₁, (subst Limits q r.limits, tt))
+      record { sure = ∣ subst (Sure st.next st.lines) (r.tie ∙ q) r.sure ∣₁; limits = subst Limits q r.limits }
 
 no_line : (s : ℕ) → find serial_of s [] ≡ None
 unfolding find
@@ -75,9 +79,9 @@ none_live [] e = refl
 none_live (b ∷ bs) e = absurd (mathlib.Core.Bool.true≢false e)
 
 -- the fields of a new store
-pub fresh : (m : Meaning) (p : Plain) (ls : List Line) → any_block m.live ≡ false → Limits (plain_of m) → p ≡ plain_of m → ls ≡ [] → ∥ Sure 1 ls p ∥₁ × (Limits p × Unit {0})
-fresh m p ls e lim q f = (
-  subst (λ (zs : List Line). ∥ Sure 1 zs p ∥₁) (sym f) ∣ record {
+pub fresh : (m : Meaning) (p : Plain) (ls : List Line) → any_block m.live ≡ false → Limits (plain_of m) → p ≡ plain_of m → ls ≡ [] → Fields 1 ls p
+fresh m p ls e lim q f = record {
+  sure = subst (λ (zs : List Line). ∥ Sure 1 zs p ∥₁) (sym f) ∣ record {
     order = none_rising;
     counted = record { begun = omega arith; unspent = omega arith; few = omega arith };
     each = tt;
@@ -85,9 +89,9 @@ fresh m p ls e lim q f = (
     held = λ s l b x y. absurd (never (no_line s) x);
     used = λ b x. absurd (no_block b (subst (Among b) (ap (λ z. z.live) q ∙ none_live m.live e) x));
     alone = λ s t l k b d x y g h. absurd (never (no_line s) x);
-  } ∣₁,
-  (subst Limits (sym q) lim, tt),
-)
+  } ∣₁;
+  limits = subst Limits (sym q) lim;
+}
 
 both : (a b : Bool) → (a && b) ≡ true → (a ≡ true) × (b ≡ true)
 both true b e = (refl, e)

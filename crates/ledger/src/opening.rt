@@ -1,11 +1,12 @@
 // SPDX-License-Identifier: Apache-2.0
 // Opening a store over an allocator, and taking the allocator out again.
-ghost use Rattle.std.specs.Prelude.{◌≡◌, ℕ, true, false, List, [], length, MatchResult, ◌==◌, ◌≢◌};
+ghost use Rattle.std.specs.Prelude.{◌≡◌, ℕ, true, false, List, [], length, IfOk, MatchResult, ◌==◌, ◌≢◌};
 ghost use Rattle.allocation.specs.declared.fault.Fault.TheVariants.{Alone};
 ghost use Rattle.allocation.specs.declared.fault.Refusal.TheVariants.{RegionDiffers};
 ghost use Rattle.book.specs.Held.{lines_of};
 ghost use Rattle.ledger.specs.Limits.{in_limits, serves};
 ghost use Rattle.ledger.specs.View.{state};
+ghost use Rattle.model.specs.Runs.{New};
 
 use crate::ledger::Ledger;
 use crate::refused::Refused;
@@ -32,10 +33,12 @@ pub fn serves<B: Allocator>(allocator: &B) -> bool
 impl<B: Allocator> Ledger<B> {
     // A store without handles. An allocator with a live block, or with a region beyond the limits, comes back.
     pub fn new(allocator: B, number: u32) -> Result<Ledger<B>, Refused<B>>
-        ensures { MatchResult result
+        ensures outcome { MatchResult result
             (λ s. (serves (B.Allocator.meaning allocator) ≡ true)
             × ((bytes : List ℕ) → state B.Allocator.meaning s bytes ≡ record { number = number; next = 1; lines = []; meaning = B.Allocator.meaning allocator; bytes = bytes }))
             (λ e. (serves (B.Allocator.meaning allocator) ≡ false) × (e.fault ≡ Alone RegionDiffers) × (e.returned ≡ allocator)) }
+        ensures starts { IfOk result (λ s. (bytes : List ℕ) → length bytes ≡ (B.Allocator.meaning allocator).extent
+            → New (record { state = state B.Allocator.meaning s bytes; table = [] })) }
     {
         if !serves(&allocator) {
             return Err(Refused {

@@ -1,8 +1,8 @@
 // SPDX-License-Identifier: Apache-2.0
 // Reading what a handle's line says.
 // Works over `len`, `capacity` and `alignment` of src/buffer_mut.rs and src/buffer.rs of vortex-buffer 0.90.0.
-ghost use Rattle.std.specs.Prelude.{◌≡◌, ◌+◌, ◌*◌, ◌^◌, ◌<◌, ◌≤◌, length, Some, None, MatchResult};
-ghost use Rattle.ledger.specs.Results.{Tells};
+ghost use Rattle.std.specs.Prelude.{◌≡◌, ◌+◌, ◌*◌, ◌^◌, ◌<◌, ◌≤◌, length, Some, None, IfOk, MatchResult};
+ghost use Rattle.ledger.specs.Results.{Shown, Tells};
 ghost use Rattle.ledger.specs.View.{state};
 ghost use Rattle.model.specs.Book.{block_of, line};
 ghost use Rattle.model.specs.Calls.{Read};
@@ -81,10 +81,11 @@ impl<B: Allocator> Ledger<B> {
 
     // The bytes of a handle's elements: the part of the region that it shows.
     pub fn as_slice<'a>(&self, region: &'a [u8], h: Handle) -> Result<&'a [u8], Fault>
-        ensures { MatchResult result
+        ensures outcome { MatchResult result
             (λ s. (refusal (checks (state B.Allocator.meaning self.now region.now) (length region.now) (Read h)) ≡ None)
             × (s.now ≡ slice_bytes (state B.Allocator.meaning self.now region.now) h))
             (λ f. refusal (checks (state B.Allocator.meaning self.now region.now) (length region.now) (Read h)) ≡ Some f) }
+        ensures place { IfOk result (λ s. Shown (state B.Allocator.meaning self.now region.now) h s.now) }
     {
         let spot = self.admits(region, h)?;
         let base = self.allocator.base();

@@ -2,10 +2,11 @@ use Rattle.std.proofs.Common.{◌≡◌, ℕ, ◌*◌, sym, refl, ap, ◌∙◌,
 use Rattle.held.specs.Whole.{parts}
 use Rattle.region.specs.Bytes.{part}
 use Rattle.model.specs.Book.{State, block_of}
+use Rattle.model.specs.Calls.{Read}
 use Rattle.model.specs.Invariant.{Sits}
 use Rattle.model.specs.Reads.{shown_place}
 use Rattle.ledger.specs.View.{state}
-use Rattle.ledger.proofs.Groups.{told}
+use Rattle.ledger.proofs.Groups.{granted_reading, used}
 use Rattle.ledger.proofs.LineEdits as edits
 use Rattle.ledger.proofs.Shows.{shown_at, shown_inside, shown_part}
 use Rattle.ledger.proofs.ledger.Ledger.as_slice.Goals as goal
@@ -22,4 +23,7 @@ pub returns : goal.returns
 returns g c =
     let st : State = state g.B.Allocator.meaning c.args.self.now c.args.region.now in
     let a = c.in_ok-spot.ensures in
-    (told st c.args.h a.passed, c.shown_in.ensures ∙ shown_part st (parts c.args.self.now.allocator) c.args.h c.in_ok-spot.spot a c.base-base.result c.base-base.ensures, c.shown_in.ensures ∙ shown_at st (parts c.args.self.now.allocator) c.args.h c.in_ok-spot.spot a c.base-base.result c.base-base.ensures)
+    let read = used st c.args.h (Read c.args.h) refl a.passed in
+    let bytes = c.shown_in.ensures ∙ shown_part st (parts c.args.self.now.allocator) c.args.h c.in_ok-spot.spot a c.base-base.result c.base-base.ensures in
+    let there = c.shown_in.ensures ∙ shown_at st (parts c.args.self.now.allocator) c.args.h c.in_ok-spot.spot a c.base-base.result c.base-base.ensures in
+    record { outcome = (read, bytes); place = (granted_reading st c.args.h read, bytes, there) }

@@ -22,4 +22,7 @@ returns g c =
     let e : serves m ≡ true = sym c.serves.ensures ∙ c.if-not-serves.false in
     let is : (bytes : List ℕ) → record { number = c.args.number; next = 1; lines = lines_of c.new-2.result; meaning = g.B.Allocator.meaning c.new.result.allocator; bytes = bytes } ≡ opened c.args.number m bytes =
     λ bytes. opened_is c.args.number (g.B.Allocator.meaning c.new.result.allocator) m (lines_of c.new-2.result) bytes (ap (λ h. g.B.Allocator.meaning h.allocator) c.new.ensures) c.new-2.ensures in
-    (e, is, λ bytes long. subst (λ (st : State). New (record { state = st; table = [] })) (sym (is bytes)) (starts c.args.number m (g.met.B.Allocator.lawful c.args.allocator) e bytes long))
+    record {
+      outcome = (e, is);
+      starts = λ bytes long. subst (λ (st : State). New (record { state = st; table = [] })) (sym (is bytes)) (starts c.args.number m (g.met.B.Allocator.lawful c.args.allocator) e bytes long);
+    }
