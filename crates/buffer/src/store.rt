@@ -12,7 +12,7 @@ ghost use Rattle.model.specs.Runs.{New};
 
 use allocation::allocation::Allocator;
 use ledger::ledger::Ledger;
-use ledger::refused::Refused as Unopened;
+use ledger::refused::Refused;
 use model::line::Line;
 
 #[derive(Drop)]
@@ -22,12 +22,12 @@ pub struct Store<B: Allocator> {
 
 impl<B: Allocator> Store<B> {
     // A store without handles. An allocator with a live block, or with a region beyond the limits, comes back with refusal 1.
-    pub fn new(allocator: B, number: u32) -> Result<Store<B>, Unopened<B>>
+    pub fn new(allocator: B, number: u32) -> Result<Store<B>, Refused<B>>
         ensures { MatchResult result
             (λ s. (serves (B.Allocator.meaning allocator) ≡ true)
             × ((bytes : List ℕ) → state B.Allocator.meaning s bytes ≡ opened number (B.Allocator.meaning allocator) bytes)
             × ((bytes : List ℕ) → length bytes ≡ (B.Allocator.meaning allocator).extent → New (record { state = state B.Allocator.meaning s bytes; table = [] })))
-            (λ e. (serves (B.Allocator.meaning allocator) ≡ false) × (e.fault ≡ Alone RegionDiffers) × (e.allocator ≡ allocator)) }
+            (λ e. (serves (B.Allocator.meaning allocator) ≡ false) × (e.fault ≡ Alone RegionDiffers) × (e.returned ≡ allocator)) }
     {
         let ledger = Ledger::new(allocator, number)?;
         Ok(Store { ledger })
