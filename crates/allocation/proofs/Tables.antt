@@ -1,8 +1,8 @@
 -- Blocks in a list: what an allocator that keeps its live blocks in one shows of them.
-use Rattle.std.proofs.Common.{◌≡◌, ℕ, Bool, true, false, ◌&&◌, ◌||◌, eqb, ◌⊎◌, ◌↔◌, List, [], ◌∷◌, ◌++◌, sym, refl, subst, inl, inr, ⊎_elim}
+use Rattle.std.proofs.Common.{◌≡◌, true, false, ◌&&◌, eqb, ◌⊎◌, ◌↔◌, List, [], ◌∷◌, ◌++◌, sym, refl, subst, inl, inr, ⊎_elim}
 use Rattle.std.proofs.lemmas.Bool.{and_parts, and_from, or_cases, or_left, or_right, eqb-true, eq-eqb, cases_Bool, both_ways}
 use Rattle.allocation.specs.declared.block.Block.{Block}
-use Rattle.allocation.specs.Faults.{same_block, is_among, any_block}
+use Rattle.allocation.specs.Faults.{same_block, is_among}
 use Rattle.allocation.specs.Meaning.{Among}
 
 pub same_block_refl : (b : Block) → same_block b b ≡ true

@@ -1,6 +1,6 @@
 -- The rules of General and Shelf in words.
-use Rattle.std.proofs.Common.{◌≡◌, ℕ, zero, suc, ◌+◌, ◌%◌, ◌<◌, ◌≤◌, max, Bool, true, false, ◌&&◌, ◌||◌, eqb, ltb, leb, ◌⊎◌, ◌↔◌, List, [], ◌∷◌, length, sym, refl, ap, ◌∙◌, inl, inr, ⊎_elim, arith}
-use Rattle.std.proofs.lemmas.Bool.{and_parts, and_from, or_cases, or_left, or_right, or_from, leb-true, le-leb, eqb-true, eq-eqb, cases_Bool, cases_lt, cases_eq, both_ways}
+use Rattle.std.proofs.Common.{◌≡◌, ℕ, zero, suc, ◌<◌, ◌≤◌, Bool, true, false, ◌&&◌, ◌||◌, eqb, ltb, leb, List, [], ◌∷◌, length, refl, ap, ◌∙◌, inl, inr, ⊎_elim, arith}
+use Rattle.std.proofs.lemmas.Bool.{and_parts, and_from, or_cases, or_left, or_right, leb-true, le-leb, eqb-true, eq-eqb, cases_Bool, cases_lt, cases_eq, both_ways}
 use Rattle.allocation.specs.declared.block.Block.{Block}
 use Rattle.allocation.specs.declared.block.Request.{Request}
 use Rattle.allocation.specs.Faults.{block_at, is_among}
@@ -8,10 +8,9 @@ use Rattle.allocation.specs.Meaning.{Among, end_of}
 use Rattle.allocation.proofs.Tables.{among_true, among_from, none_among}
 use Rattle.allocators.specs.declared.arena.Placing.{Placing}
 use Rattle.allocators.specs.declared.arena.Placing.TheVariants.{Lowest, AboveHighest}
-use Rattle.allocators.specs.Fitting.{lies, fits, Fits, some_below, grants_from, highest_end}
-use Rattle.allocators.specs.Fitting.{Lowest as LowestPlace}
+use Rattle.allocators.specs.Fitting.{lies, fits, some_below, grants_from, highest_end}
 use Rattle.allocators.specs.Placings.{may_grow, stays, start_of, meaning_by}
-use Rattle.allocators.specs.Rules.{Granting, GeneralRule, Highest, Stays, ShelfRule}
+use Rattle.allocators.specs.Rules.{Granting, GeneralRule, Stays, ShelfRule}
 use Rattle.allocators.specs.Blocks.{lies_true, lies_from, fits_true, fits_from}
 use Rattle.allocators.specs.Grants.{granted, granted_only, highest_among}
 

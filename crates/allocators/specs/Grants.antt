@@ -1,14 +1,14 @@
 -- When a request is granted, and at which place.
-use Rattle.std.specs.Prelude.{◌≡◌, ℕ, zero, suc, ◌+◌, ◌-◌, ◌%◌, ◌<◌, ◌≤◌, max, Bool, true, false, ◌&&◌, ◌||◌, ◌⊎◌, List, [], ◌∷◌, ◌++◌, length, Some, None, Option, MatchOption, nat_le, nat_lt, refl}
-use Rattle.std.proofs.Common.{inl, inr, sym, subst, arith, lit<}
+use Rattle.std.specs.Prelude.{◌≡◌, ℕ, zero, suc, ◌+◌, ◌-◌, ◌%◌, ◌<◌, ◌≤◌, max, Bool, true, false, ◌&&◌, List, [], ◌∷◌, ◌++◌, length, Some, None, Option, MatchOption, nat_le, nat_lt, refl}
+use Rattle.std.proofs.Common.{inl, inr, subst, arith, lit<}
 use Rattle.std.proofs.lemmas.Bool.{and_from, and_left, and_right, and_parts, or_left, or_right, or_from, or_cases, ltb-true, lt-ltb, leb-true, le-leb, lt-leb, cases_eq, cases_lt, both_ways}
 use Rattle.allocation.specs.declared.block.Block.{Block}
 use Rattle.allocation.specs.declared.block.Request.{Request}
 use Rattle.allocation.specs.Alignments.{round_up}
-use Rattle.allocation.specs.Meaning.{Among, Apart, end_of}
+use Rattle.allocation.specs.Meaning.{Among, end_of}
 use Rattle.allocation.proofs.Rounding.{round_up_low, round_up_high, round_up_multiple}
-use Rattle.allocators.specs.Fitting.{fits, sound, Fits, Lowest, some_below, grants_from, highest_end}
-use Rattle.allocators.specs.Blocks.{Lies, sound_among, fits_true, fits_from}
+use Rattle.allocators.specs.Fitting.{fits, Fits, Lowest, some_below, grants_from, highest_end}
+use Rattle.allocators.specs.Blocks.{fits_true, fits_from}
 
 some_below_at : (t : ℕ → Bool) (n p : ℕ) → p < n → t p ≡ true → some_below t n ≡ true
 some_below_at t zero p l h = absurd (omega arith)

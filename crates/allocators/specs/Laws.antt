@@ -1,6 +1,6 @@
 -- The laws of what General and Shelf mean, and what each operation makes of it, for both ways to choose places.
-use Rattle.std.specs.Prelude.{◌≡◌, ℕ, ◌+◌, ◌-◌, ◌%◌, ◌^◌, ◌<◌, ◌≤◌, Bool, true, false, ◌&&◌, ◌||◌, ◌⊎◌, ◌↔◌, List, [], ◌∷◌, ◌++◌, length, ◌==◌, ◌≢◌, nat_le, refl}
-use Rattle.std.proofs.Common.{inl, inr, ⊎_elim, sym, ap, subst, ◌∙◌, arith, pow_pos}
+use Rattle.std.specs.Prelude.{◌≡◌, ℕ, ◌+◌, ◌-◌, ◌<◌, ◌≤◌, true, ◌⊎◌, ◌↔◌, List, [], ◌∷◌, ◌++◌, length, ◌==◌, ◌≢◌, nat_le, refl}
+use Rattle.std.proofs.Common.{inl, inr, ⊎_elim, sym, subst, arith, pow_pos}
 use Rattle.std.proofs.lemmas.Bool.{and_parts, and_from, or_right, leb-true, le-leb, eqb-true, cases_Bool}
 use Rattle.region.specs.Bytes.{part, overwrite, Outside}
 use Rattle.region.proofs.Writes.{length_part}
@@ -8,15 +8,14 @@ use Rattle.region.proofs.Copies.{part_overwrite, outside_overwrite}
 use Rattle.allocation.specs.declared.block.Block.{Block}
 use Rattle.allocation.specs.declared.block.Request.{Request}
 use Rattle.allocation.specs.Faults.{block_at, is_among}
-use Rattle.allocation.specs.Meaning.{Meaning, Lawful, Fixed, Allocates, Frees, Grows, Among, Apart, Valid, end_of}
+use Rattle.allocation.specs.Meaning.{Lawful, Allocates, Frees, Grows, Among, Valid, end_of}
 use Rattle.allocation.proofs.Tables.{cases_block, among_true, among_from, none_among, among_snoc}
 use Rattle.allocators.specs.declared.arena.Placing.{Placing}
 use Rattle.allocators.specs.declared.arena.Placing.TheVariants.{Lowest, AboveHighest}
-use Rattle.allocators.specs.Fitting.{clear_of, lies, sound, fits, Fits, grants_from, highest_end}
-use Rattle.allocators.specs.Fitting.{Lowest as LowestPlace}
-use Rattle.allocators.specs.Placings.{may_grow, stays, start_of, meaning_by, Regrown, Shelved}
+use Rattle.allocators.specs.Fitting.{clear_of, lies, sound, Fits, grants_from, highest_end}
+use Rattle.allocators.specs.Placings.{may_grow, stays, start_of, meaning_by, Regrown}
 use Rattle.allocators.specs.Tables.{without}
-use Rattle.allocators.specs.Blocks.{Lies, lies_true, fits_lies, clear_of_among, clear_of_from, sound_among, sound_apart, sound_push, sound_without, among_without}
+use Rattle.allocators.specs.Blocks.{lies_true, fits_lies, clear_of_among, clear_of_from, sound_among, sound_apart, sound_push, sound_without, among_without}
 use Rattle.allocators.specs.Grants.{empty_grants, highest_among}
 
 start_none : (k : Placing) → start_of k [] ≡ 0

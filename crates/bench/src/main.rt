@@ -1,6 +1,8 @@
 // SPDX-License-Identifier: Apache-2.0
 // Writes columns into a region. Without an argument it checks a few bytes; with `time` it times the writing of 2^20 values
 // against a plain copy of as many bytes.
+#![tactic(auto)]
+
 ghost use Rattle.std.specs.Prelude.{◌+◌, ◌*◌, ◌≤◌, length};
 
 use anyhow::anyhow;

@@ -1,5 +1,5 @@
 -- From the laws of a kind and the type of alignments to what a run asks of its calls, and to what a kind's patterns say of its values.
-use Rattle.std.proofs.Common.{◌≡◌, ℕ, ◌^◌, ◌≤◌, List, [], ◌∷◌, map, length, replicate, Some, None, Option, sym, refl, ap, ◌∙◌, subst, arith, pow_pos}
+use Rattle.std.proofs.Common.{◌≡◌, ℕ, ◌≤◌, List, [], ◌∷◌, map, replicate, Some, None, Option, sym, refl, ap, ◌∙◌, subst, arith, pow_pos}
 use Rattle.allocation.specs.Alignments.{IsAlignment}
 use Rattle.allocation.specs.declared.alignment.Alignment.{Alignment}
 use Rattle.element.specs.Patterns.{Bytes, OneToOne, Shaped}

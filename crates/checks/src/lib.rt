@@ -1,6 +1,8 @@
 // SPDX-License-Identifier: Apache-2.0
 // The checks of the calls, a function for each group: the first check that holds is the refusal.
 // Works over src/buffer_mut.rs and src/buffer.rs of vortex-buffer 0.90.0.
+#![tactic(auto)]
+
 ghost use Rattle.std.specs.Prelude.{◌≡◌, ◌+◌, ◌*◌, ◌^◌, ◌<◌, ◌≤◌, true, false, [], ◌∷◌, ◌++◌, Some, None, MatchOption, MatchResult};
 ghost use Rattle.allocation.specs.Asked.{asked};
 ghost use Rattle.allocation.specs.declared.fault.Fault.TheVariants.{Alone};

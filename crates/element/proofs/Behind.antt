@@ -2,7 +2,7 @@
 use Rattle.std.proofs.Common.{◌≡◌, ℕ, ◌+◌, ◌*◌, ◌/◌, ◌^◌, ◌<◌, ◌≤◌, List, [], ◌∷◌, ◌++◌, length, ap, ◌∙◌, mul-le-mul_right, suc-mul, div-lt_iff_lt-mul, add-mul, le-div_iff_mul-le, arith, pow_pos, pow_mono}
 use Rattle.std.specs.List.{flat_map}
 use Rattle.std.proofs.lemmas.List.{flat_map_more, length-append}
-use Rattle.region.specs.Bytes.{part, overwrite}
+use Rattle.region.specs.Bytes.{overwrite}
 use Rattle.region.proofs.Writes.{overwrite_behind}
 use Rattle.element.specs.Patterns.{Shaped}
 

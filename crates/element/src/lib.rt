@@ -1,6 +1,8 @@
 // SPDX-License-Identifier: Apache-2.0
 // Element kinds, and values written to and read from a region's bytes.
 // Stands for the element type `T` of src/buffer.rs and src/buffer_mut.rs of vortex-buffer 0.90.0.
+#![tactic(auto)]
+
 ghost use Rattle.std.specs.Prelude.{◌≡◌, ℕ, List, length};
 ghost use Rattle.element.specs.Patterns.{OneToOne, Shaped};
 

@@ -1,8 +1,7 @@
 -- From what appending did to what the definitions say of it.
-use Rattle.std.proofs.Common.{◌≡◌, ℕ, ◌+◌, ◌-◌, ◌*◌, ◌^◌, ◌<◌, ◌≤◌, true, List, [], ◌∷◌, ◌++◌, length, set, Some, None, Option, sym, refl, ap, ◌∙◌, subst, append-nil, mul-le-mul_right, mul_comm, add-mul, arith}
+use Rattle.std.proofs.Common.{◌≡◌, ℕ, ◌+◌, ◌-◌, ◌*◌, ◌^◌, ◌<◌, ◌≤◌, List, [], ◌∷◌, length, set, Some, None, Option, sym, refl, ap, ◌∙◌, subst, append-nil, mul-le-mul_right, mul_comm, add-mul, arith}
 use Rattle.std.specs.List.{flat_map as JoinedBy}
 use Rattle.region.specs.Bytes.{overwrite}
-use Rattle.allocation.specs.Meaning.{Meaning}
 use Rattle.allocation.specs.declared.block.Block.{Block}
 use Rattle.allocation.specs.declared.fault.Fault.{Fault}
 use Rattle.model.specs.Answers.{Answers}

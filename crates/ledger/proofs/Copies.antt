@@ -1,5 +1,5 @@
 -- From what a copy did to what the definitions say of it: one argument for all calls that may copy.
-use Rattle.std.proofs.Common.{◌≡◌, ℕ, ◌+◌, ◌-◌, ◌*◌, ◌^◌, ◌<◌, ◌≤◌, max, Bool, true, false, cond, not, ltb, List, [], ◌∷◌, ◌++◌, length, set, Some, None, Option, sym, refl, ap, ◌∙◌, subst, inl, inr, mul-le-mul_right, arith}
+use Rattle.std.proofs.Common.{◌≡◌, ℕ, ◌+◌, ◌-◌, ◌*◌, ◌≤◌, max, Bool, true, false, ltb, List, [], ◌∷◌, ◌++◌, length, set, Some, None, Option, sym, refl, ap, ◌∙◌, subst, inl, inr, mul-le-mul_right, arith}
 use Rattle.allocation.specs.Alignments.{round_up}
 use Rattle.allocation.specs.Asked.{asked}
 use Rattle.allocation.specs.Meaning.{Meaning}
@@ -15,7 +15,7 @@ use Rattle.model.specs.Book.{State, block_of, line, shared_by, shown}
 use Rattle.model.specs.Calls.{Call, Grant, done, preferred_alignment}
 use Rattle.model.specs.Checks.{Check, refusal, brings, own, checks, block_checks, request_for}
 use Rattle.model.specs.Effects.{Copies, Does, GivesBack, Obtains, StaysOr, copied_into, list_of, put_line, with_bytes, with_meaning, written_in}
-use Rattle.model.specs.Invariant.{Plain, Sits, Stands}
+use Rattle.model.specs.Invariant.{Plain, Sits}
 use Rattle.model.specs.declared.line.Handle.{Handle}
 use Rattle.model.specs.declared.line.Line.{Line}
 use Rattle.model.proofs.Alignments.{max_one}

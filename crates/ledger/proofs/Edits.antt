@@ -1,5 +1,5 @@
 -- The book after a change at one place is the state with that line put, added or ended.
-use Rattle.std.proofs.Common.{◌≡◌, ℕ, ◌+◌, ◌<◌, List, [], ◌∷◌, ◌++◌, length, get_or, set, Some, None, Option, sym, refl, ap, ◌∙◌, subst, arith}
+use Rattle.std.proofs.Common.{◌≡◌, ℕ, ◌+◌, ◌<◌, List, [], ◌∷◌, ◌++◌, length, get_or, set, Some, Option, sym, ap, ◌∙◌, subst, arith}
 use Rattle.std.specs.List.{remove}
 use Rattle.std.proofs.lemmas.List.{length-set, get_or-set_same}
 use Rattle.allocation.specs.Meaning.{Meaning}
@@ -13,7 +13,7 @@ use Rattle.model.specs.Invariant.{Plain}
 use Rattle.model.specs.Keyed.{find, update, Rising}
 use Rattle.model.proofs.Checks.{line_is}
 use Rattle.model.proofs.Keyed.{find_key}
-use Rattle.ledger.specs.Entry.{Admitted, Ready}
+use Rattle.ledger.specs.Entry.{Admitted}
 use Rattle.ledger.specs.declared.spot.Spot.{Spot}
 
 -- the state over other lines, another meaning and other bytes

@@ -1,5 +1,5 @@
 -- No call changes what is fixed of an allocator's meaning.
-use Rattle.std.proofs.Common.{◌≡◌, ℕ, max, Bool, true, false, not, ltb, leb, List, length, Some, None, Option, sym, refl, ap, ◌∙◌, subst}
+use Rattle.std.proofs.Common.{◌≡◌, ℕ, max, Bool, true, false, ltb, List, length, Some, None, Option, sym, refl, ap, ◌∙◌, subst}
 use Rattle.allocation.specs.declared.block.Block.{Block}
 use Rattle.allocation.specs.declared.block.Request.{Request}
 use Rattle.allocation.specs.Meaning.{Fixed, Meaning}
@@ -9,7 +9,7 @@ use Rattle.model.specs.Answers.{Answers}
 use Rattle.model.specs.Book.{State, line}
 use Rattle.model.specs.Calls.{Call, WithCapacity, Zeroed, CopyFrom, EmptyShared, Reserve, Append, Truncate, Clear, Set, Take, AlignedMut, Freeze, IntoBytes, FromBytes, Share, Slice, TryIntoMut, IntoMut, Aligned, EnsureAligned, Read, Release, Grant, Answer, granted, refused}
 use Rattle.model.specs.Checks.{enough, is_aligned, takes_new}
-use Rattle.model.specs.Effects.{add_line, put_line, end_line, with_meaning, with_bytes, appended, Obtains, GivesBack, Made, Copies, StaysOr, Relocates, Reserves, Does}
+use Rattle.model.specs.Effects.{add_line, put_line, end_line, with_meaning, with_bytes, appended, Obtains, GivesBack, Made, Copies, StaysOr, Reserves, Does}
 use Rattle.model.proofs.Getting.{unchanged}
 use Rattle.model.proofs.Reserving.{same_fixed}
 

@@ -1,9 +1,9 @@
 -- From what a call that makes a second handle did to what the definitions say of it.
-use Rattle.std.proofs.Common.{◌≡◌, ℕ, ◌+◌, ◌<◌, true, List, [], ◌∷◌, ◌++◌, length, set, Some, None, sym, refl, ap, ◌∙◌, subst, arith}
+use Rattle.std.proofs.Common.{◌≡◌, ℕ, ◌+◌, ◌<◌, true, List, [], ◌∷◌, ◌++◌, length, set, None, sym, refl, ap, ◌∙◌, subst, arith}
 use Rattle.std.proofs.lemmas.List.{length-set}
 use Rattle.model.specs.Book.{State, line, line_limit}
-use Rattle.model.specs.Calls.{Call, Take, Share, giving}
-use Rattle.model.specs.Checks.{refusal, brings, own, checks}
+use Rattle.model.specs.Calls.{Take, Share, giving}
+use Rattle.model.specs.Checks.{refusal, brings}
 use Rattle.model.specs.Effects.{add_line, put_line, empty_line, shared_with, with_backing, with_serial}
 use Rattle.model.specs.Invariant.{Plain}
 use Rattle.model.specs.declared.line.Handle.{Handle}

@@ -1,14 +1,14 @@
 -- From what a making did to what the definitions say of it: one argument for all makings.
-use Rattle.std.proofs.Common.{◌≡◌, ℕ, zero, suc, ◌+◌, ◌-◌, ◌*◌, ◌^◌, ◌<◌, ◌≤◌, max, Bool, true, false, cond, not, ◌&&◌, ltb, ◌⊎◌, List, [], ◌∷◌, ◌++◌, map, length, replicate, Some, None, Option, sym, refl, ap, ◌∙◌, subst, inl, inr, arith, pow_mono}
+use Rattle.std.proofs.Common.{◌≡◌, ℕ, zero, suc, ◌+◌, ◌*◌, ◌^◌, ◌≤◌, max, Bool, true, ltb, List, [], ◌∷◌, ◌++◌, map, length, replicate, Some, None, Option, sym, refl, ap, ◌∙◌, subst, inl, arith, pow_mono}
 use Rattle.std.specs.List.{flat_map as JoinedBy}
-use Rattle.allocation.specs.Alignments.{IsAlignment, round_up, greatest_exponent}
+use Rattle.allocation.specs.Alignments.{IsAlignment}
 use Rattle.allocation.specs.Asked.{asked}
 use Rattle.allocation.specs.Meaning.{Meaning}
 use Rattle.allocation.specs.declared.block.Block.{Block}
 use Rattle.allocation.specs.declared.block.Request.{Request}
 use Rattle.allocation.specs.declared.fault.Fault.{Fault}
 use Rattle.allocation.proofs.Rounding.{round_up_high}
-use Rattle.checks.specs.Groups.{below_kind, size_checks, grant_check}
+use Rattle.checks.specs.Groups.{below_kind, grant_check}
 use Rattle.sizes.specs.Numbers.{Spaced, state_with}
 use Rattle.sizes.proofs.Bounds.{spaced_got}
 use Rattle.checks.proofs.Joins.{passes, stops}
@@ -16,13 +16,13 @@ use Rattle.model.specs.Book.{State}
 use Rattle.model.specs.Calls.{Call, CopyFrom, EmptyShared, Grant, giving}
 use Rattle.model.specs.Checks.{Check, refusal, brings, own, checks, request_for}
 use Rattle.model.specs.Effects.{add_line, with_bytes, with_meaning, Obtains, Made, Does, made, made_as, list_of, unbacked_line, written_in}
-use Rattle.model.specs.Invariant.{Plain, plain_of}
+use Rattle.model.specs.Invariant.{Plain}
 use Rattle.model.specs.Patterns.{joined, Even}
 use Rattle.model.specs.declared.line.Kind.{Kind}
 use Rattle.model.specs.declared.line.Line.{Line}
 use Rattle.model.proofs.Alignments.{alignment_one, max_one}
 use Rattle.model.proofs.Getting.{obtained}
-use Rattle.ledger.specs.Entry.{Opened, Ready, opening}
+use Rattle.ledger.specs.Entry.{Opened, opening}
 use Rattle.ledger.specs.Making.{asking, Fair, plan_checks, Planned, Writable}
 use Rattle.ledger.specs.Results.{Grants}
 use Rattle.ledger.specs.declared.plan.Plan.{Plan}

@@ -1,5 +1,5 @@
 -- Moving a line's elements into a block: what the steps need, and what they come to.
-use Rattle.std.proofs.Common.{◌≡◌, ℕ, ◌+◌, ◌-◌, ◌*◌, ◌^◌, ◌<◌, ◌≤◌, Bool, true, false, cond, ◌||◌, eqb, leb, List, length, Some, None, Option, Result, sym, refl, ap, ◌∙◌, subst, inl, inr, true≢false, arith, MatchResult}
+use Rattle.std.proofs.Common.{◌≡◌, ℕ, ◌+◌, ◌-◌, ◌*◌, ◌^◌, ◌<◌, ◌≤◌, Bool, true, false, cond, ◌||◌, List, Some, None, Option, Result, sym, refl, ap, ◌∙◌, subst, inl, inr, true≢false, arith, MatchResult}
 use Rattle.std.proofs.lemmas.Result.{MatchResult-weaker}
 use Rattle.std.proofs.lemmas.Bool.{eq-eqb, ne_eqb, le-leb}
 use Rattle.region.specs.Bytes.{overwrite, part}

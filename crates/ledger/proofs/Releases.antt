@@ -1,5 +1,5 @@
 -- From what `release` did to what the definitions say of it.
-use Rattle.std.proofs.Common.{◌≡◌, ℕ, Bool, true, false, cond, not, eqb, ◌⊎◌, List, [], ◌∷◌, length, Some, None, Option, sym, refl, ap, ◌∙◌, subst, inl, inr, arith}
+use Rattle.std.proofs.Common.{◌≡◌, ℕ, Bool, true, false, List, [], ◌∷◌, length, Some, None, Option, sym, refl, ◌∙◌, subst, inl, inr}
 use Rattle.std.specs.List.{remove}
 use Rattle.std.proofs.lemmas.Bool.{eq-eqb}
 use Rattle.allocation.specs.declared.block.Block.{Block}
@@ -8,9 +8,9 @@ use Rattle.allocation.specs.Faults.{is_among, deallocate_fault, same_block}
 use Rattle.allocation.specs.Meaning.{Among, Meaning}
 use Rattle.model.specs.declared.line.Handle.{Handle}
 use Rattle.model.specs.declared.line.Line.{Line}
-use Rattle.model.specs.Book.{State, block_of, line, one_backing, serial_of, shared_by}
+use Rattle.model.specs.Book.{State, block_of, one_backing, serial_of, shared_by}
 use Rattle.model.specs.Calls.{Release, done}
-use Rattle.model.specs.Effects.{block_left, end_line, with_meaning, GivesBack}
+use Rattle.model.specs.Effects.{block_left, GivesBack}
 use Rattle.model.specs.Invariant.{Plain}
 use Rattle.model.specs.Keyed.{any_other}
 use Rattle.model.proofs.Backings.{same_block_refl}

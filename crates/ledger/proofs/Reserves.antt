@@ -1,5 +1,5 @@
 -- From what reserving did to what the definitions say of it.
-use Rattle.std.proofs.Common.{◌≡◌, ℕ, ◌+◌, ◌-◌, ◌*◌, ◌/◌, ◌^◌, ◌<◌, ◌≤◌, max, Bool, true, false, cond, not, ◌&&◌, ◌||◌, List, [], ◌∷◌, ◌++◌, length, set, Some, None, Option, sym, refl, ap, ◌∙◌, subst, mul-le-mul_right, arith}
+use Rattle.std.proofs.Common.{◌≡◌, ℕ, ◌+◌, ◌-◌, ◌*◌, ◌/◌, ◌^◌, ◌<◌, ◌≤◌, true, false, cond, not, List, [], ◌∷◌, ◌++◌, length, set, Some, None, Option, sym, refl, ap, ◌∙◌, subst, mul-le-mul_right, arith}
 use Rattle.std.proofs.lemmas.Bool.{leb-true}
 use Rattle.allocation.specs.Alignments.{round_up}
 use Rattle.allocation.specs.Meaning.{Meaning}
@@ -10,7 +10,7 @@ use Rattle.checks.specs.Groups.{growth_checks, room_check}
 use Rattle.checks.proofs.Joins.{passes, stops, reserve_enough, reserve_grows}
 use Rattle.model.specs.Book.{State, line, look_up, block_of}
 use Rattle.model.specs.Calls.{Reserve, giving}
-use Rattle.model.specs.Checks.{Check, refusal, checks, enough, not_granted, reserve_checks, wanted_bytes, wanted_request, uses, own}
+use Rattle.model.specs.Checks.{refusal, checks, enough, not_granted, reserve_checks, wanted_bytes, wanted_request, uses}
 use Rattle.model.specs.Effects.{Reserves, Relocates, put_line, with_bytes, with_meaning, relocated}
 use Rattle.model.specs.Invariant.{Plain, plain_of, Sits, Stands}
 use Rattle.model.specs.declared.line.Handle.{Handle}
@@ -18,7 +18,6 @@ use Rattle.model.specs.declared.line.Line.{Line}
 use Rattle.model.proofs.Checks.{held}
 use Rattle.model.proofs.KeepsSure.{well_inv}
 use Rattle.model.proofs.Reserving.{reserved}
-use Rattle.model.proofs.Lines.{kept_at}
 use Rattle.ledger.specs.Entry.{Admitted, Ready}
 use Rattle.ledger.specs.Moving.{Movable, Moved, moving_granted, Roomy}
 use Rattle.ledger.specs.Results.{Grants}

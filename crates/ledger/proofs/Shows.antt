@@ -1,5 +1,5 @@
 -- The part of the region that a line shows lies in the region.
-use Rattle.std.proofs.Common.{◌≡◌, ℕ, ◌+◌, ◌-◌, ◌*◌, ◌≤◌, List, [], length, Some, None, Option, sym, refl, ap, ◌∙◌, zero-mul, arith}
+use Rattle.std.proofs.Common.{◌≡◌, ℕ, ◌+◌, ◌*◌, ◌≤◌, List, [], length, Some, None, Option, refl, ap, ◌∙◌, zero-mul, arith}
 use Rattle.region.specs.Bytes.{part}
 use Rattle.allocation.specs.declared.block.Block.{Block}
 use Rattle.model.specs.Book.{State, block_of, line, shown, shown_on}

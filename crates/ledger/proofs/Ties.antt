@@ -1,14 +1,13 @@
 -- From a ledger's own fields to the invariant of runs, and to the fields after a call.
-use Rattle.std.proofs.Common.{◌≡◌, ℕ, ◌^◌, ◌≤◌, Bool, true, false, not, ◌&&◌, leb, List, [], ◌∷◌, length, Some, None, sym, refl, ap, ◌∙◌, subst, arith}
+use Rattle.std.proofs.Common.{◌≡◌, ℕ, Bool, true, false, not, ◌&&◌, leb, List, [], ◌∷◌, length, None, sym, refl, ap, ◌∙◌, subst, arith}
 use Rattle.std.proofs.lemmas.Bool.{leb-true, not-true}
 use Rattle.allocation.specs.declared.block.Block.{Block}
 use Rattle.allocation.specs.Faults.{any_block}
 use Rattle.allocation.specs.Meaning.{Among, Fixed, Lawful, Meaning}
 use Rattle.model.specs.declared.line.Line.{Line}
-use Rattle.model.specs.Answers.{Answers}
 use Rattle.model.specs.Book.{State, serial_of}
-use Rattle.model.specs.Calls.{Answer, Call, Grant, granted}
-use Rattle.model.specs.Invariant.{Plain, plain_of, Sure, SureOf}
+use Rattle.model.specs.Calls.{Call, granted}
+use Rattle.model.specs.Invariant.{Plain, plain_of, Sure}
 use Rattle.model.specs.Keyed.{find, Rising}
 use Rattle.model.specs.Runs.{New, Sound}
 use Rattle.model.proofs.KeepsSure.{Well, keeps_sure, sure_well, well_inv, well_on}

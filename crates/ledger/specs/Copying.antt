@@ -1,5 +1,5 @@
 -- Copying a line's elements into a block of their own.
-use Rattle.std.specs.Prelude.{◌≡◌, ℕ, ◌+◌, ◌-◌, ◌*◌, ◌^◌, ◌<◌, ◌≤◌, max, Bool, List, Some, None, Option, nat_lt}
+use Rattle.std.specs.Prelude.{◌≡◌, ℕ, ◌+◌, ◌-◌, ◌*◌, ◌^◌, ◌<◌, ◌≤◌, max, List, Some, None, Option, nat_lt}
 use Rattle.allocation.specs.Alignments.{round_up}
 use Rattle.allocation.specs.Asked.{asked}
 use Rattle.allocation.specs.Meaning.{Meaning, Lawful, Among}

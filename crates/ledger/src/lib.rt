@@ -1,6 +1,8 @@
 // SPDX-License-Identifier: Apache-2.0
 // A store over plain handles: every call of the buffers, as a change of the book, of the allocator's blocks and of the region's bytes.
 // Works over src/buffer_mut.rs and src/buffer.rs of vortex-buffer 0.90.0.
+#![tactic(auto)]
+
 pub mod admitting;
 pub mod appending;
 pub mod copy_plan;

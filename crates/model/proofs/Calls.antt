@@ -14,8 +14,7 @@ use Rattle.model.specs.Keyed.{Rising, update}
 use Rattle.model.specs.Kinds.{byte, is_byte}
 use Rattle.model.specs.Patterns.{Even, joined}
 use Rattle.model.specs.Pedigree.{Row, Table, begins, branch, copied_to, if_any, key_of, last_or, named, range, row, spell, spelling, upon}
-use Rattle.model.specs.Reads.{same}
-use Rattle.model.specs.Runs.{Sound, SoundClaim, next}
+use Rattle.model.specs.Runs.{Sound, SoundClaim}
 use Rattle.model.proofs.Alignments.{alignment_one, max_one, width_one}
 use Rattle.model.proofs.Checks.{Held, Passed, and_cases_first, held, line_is, not_not}
 use Rattle.model.proofs.Fitting.{fits_like, fits_new, sits_off, sits_on}

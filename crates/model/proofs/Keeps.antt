@@ -16,7 +16,6 @@ use Rattle.model.specs.Effects.{GivesBack, add_line, block_left, end_line, put_l
 use Rattle.model.specs.Keyed.{Rising, update, without}
 use Rattle.model.specs.Pedigree.{Row, Table, as_kind, begins, if_any, key_of, named, row, spelling, upon}
 use Rattle.model.proofs.Backings.{block_one, one_block}
-use Rattle.model.proofs.Checks.{held}
 use Rattle.model.proofs.Fitting.{div_mul, fits_like, fits_new, fits_range, fits_regrouped, fits_set, mul_div, sits_off, sits_on}
 use Rattle.model.proofs.Getting.{returned}
 use Rattle.model.proofs.Invariant.{Fits, HasRow, Inv, Other}

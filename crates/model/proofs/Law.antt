@@ -15,14 +15,14 @@ use Rattle.allocation.specs.Refusals.{number, refusal_of}
 use Rattle.model.specs.declared.line.Handle.{Handle}
 use Rattle.model.specs.declared.line.Line.{Line}
 use Rattle.model.specs.Book.{State, block_of, known, line, line_limit, look_up, serial_limit, serial_of, shared_by, shown}
-use Rattle.model.specs.Calls.{granted, read, try_into_mut, with_capacity_in}
+use Rattle.model.specs.Calls.{read, try_into_mut, with_capacity_in}
 use Rattle.model.specs.Checks.{checks, full, refusal, request_for}
 use Rattle.model.specs.Keyed.{find}
 use Rattle.model.specs.Laws.{AloneLaw, BlocksLaw, FrameLaw, FreshLaw, GrantLaw, HasOther, Kept, LinesLaw, PartsLaw, PlaceLaw, RoomLaw, RowsLaw, SharingLaw, Shows, StoreLaw, WritesLaw, asked_bytes}
 use Rattle.model.specs.Patterns.{Even, joined}
-use Rattle.model.specs.Pedigree.{Row, Table, row}
+use Rattle.model.specs.Pedigree.{Row, Table}
 use Rattle.model.specs.Reads.{fails, place_on, same, says}
-use Rattle.model.specs.Runs.{Store, next, start}
+use Rattle.model.specs.Runs.{Store}
 use Rattle.model.proofs.Alignments.{valid_for}
 use Rattle.model.proofs.Checks.{Held, Passed, Stopped, held, passed, past, stopped, unrefused}
 use Rattle.model.proofs.Empties.{one_numbers}

@@ -11,7 +11,7 @@ use Rattle.model.specs.Keyed.{All, Rising, find}
 use Rattle.model.specs.Pedigree.{Table, feed, key_of, row}
 use Rattle.model.specs.Runs.{In, New, Reached, Sound, Step, Store, World, here, next, start, there}
 use Rattle.model.proofs.Calls.{keeps}
-use Rattle.model.proofs.Checks.{held, passed}
+use Rattle.model.proofs.Checks.{passed}
 use Rattle.model.proofs.Empties.{Named, named_on}
 use Rattle.model.proofs.Invariant.{Inv}
 use Rattle.model.proofs.Keyed.{find_nil}

@@ -1,5 +1,7 @@
 // SPDX-License-Identifier: Apache-2.0
 // A kind that a host adds: two bytes, aligned to one. The library knows nothing of it.
+#![tactic(auto)]
+
 ghost use Rattle.std.specs.Prelude.{[], ◌∷◌, refl};
 ghost use Rattle.std.proofs.Common.{lit≤};
 ghost use Rattle.element.specs.Patterns.{digits};

@@ -1,10 +1,10 @@
 -- Laws of `part`, `overwrite`, `Outside` and `equal`.
-use Rattle.std.proofs.Common.{◌≡◌, ℕ, ◌+◌, ◌-◌, ◌<◌, ◌≤◌, Bool, true, false, eqb, ◌⊎◌, List, [], ◌∷◌, ◌++◌, length, get_or, take, drop, Decides, sym, refl, ap, ◌∙◌, inl, inr, ⊎_elim, arith, rules}
+use Rattle.std.proofs.Common.{◌≡◌, ℕ, ◌+◌, ◌≤◌, List, [], ◌++◌, length, take, drop, Decides, sym, ap, ◌∙◌, arith, rules}
 use lib.Seq.{paste}
 use borrow.Rule.Slice.PartMut.{put_mid}
-use Rattle.std.proofs.lemmas.Slice.Eq.{IsBytesEq, compares_Decides}
+use Rattle.std.proofs.lemmas.Slice.Eq.{compares_Decides}
 use Rattle.std.proofs.lemmas.List.{take_at, drop_at, drop-drop, take-append-drop, append_assoc, length-append, length-take-le, length-drop}
-use Rattle.region.specs.Bytes.{part, overwrite, Outside, equal}
+use Rattle.region.specs.Bytes.{part, overwrite, equal}
 
 -- nothing written
 pub overwrite_none : (place : ℕ) (xs : List ℕ) → overwrite place [] xs ≡ xs

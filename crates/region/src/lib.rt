@@ -1,6 +1,8 @@
 // SPDX-License-Identifier: Apache-2.0
 // The byte work below everything: parts of a lent region are zeroed, moved and compared.
 // Stands for the raw pointer writes of vortex-buffer 0.90.0 (src/buffer_mut.rs).
+#![tactic(auto)]
+
 ghost use Rattle.std.specs.Prelude.{◌≡◌, ◌+◌, ◌≤◌, length, replicate};
 ghost use Rattle.region.specs.Bytes.{part, overwrite, equal};
 

@@ -1,5 +1,7 @@
 // SPDX-License-Identifier: Apache-2.0
 // Reads a host's day from standard input, does it on a real region, and tells what happened.
+#![tactic(auto)]
+
 mod command;
 mod day;
 mod picture;

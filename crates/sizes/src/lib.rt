@@ -1,6 +1,8 @@
 // SPDX-License-Identifier: Apache-2.0
 // Sizes, starts and capacities, and the lines that are made from them: every function equals a definition.
 // Works over src/buffer_mut.rs and src/buffer.rs of vortex-buffer 0.90.0.
+#![tactic(auto)]
+
 ghost use Rattle.std.specs.Prelude.{◌≡◌, ◌+◌, ◌-◌, ◌*◌, ◌/◌, ◌%◌, ◌^◌, ◌<◌, ◌≤◌, max, true, false, ◌||◌, Some, None, MatchOption, nat_lt};
 ghost use Rattle.allocation.specs.Alignments.{round_up};
 ghost use Rattle.sizes.specs.Numbers.{Spaced, state_with};

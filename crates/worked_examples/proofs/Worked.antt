@@ -1,5 +1,5 @@
 -- The nine examples, by computing.
-use Rattle.std.proofs.Common.{◌≡◌, ℕ, ◌+◌, ◌<◌, ◌≤◌, Bool, true, false, ◌⊎◌, List, [], ◌∷◌, ◌++◌, length, Some, None, refl, ap, ◌∙◌, subst, inl, inr, ⊎_elim, arith, lit<, lit≤}
+use Rattle.std.proofs.Common.{◌≡◌, ℕ, ◌+◌, ◌≤◌, List, [], ◌∷◌, length, Some, None, refl, ap, ◌∙◌, subst, inl, inr, ⊎_elim, arith, lit≤}
 use native.Mathlib.Nat.{mod-one}
 use Rattle.std.proofs.lemmas.List.{append-nil}
 use Rattle.region.specs.Bytes.{overwrite}

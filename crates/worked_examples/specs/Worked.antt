@@ -1,5 +1,5 @@
 -- Nine worked examples: calls, their answers and the states after them, over the meanings of General and Shelf.
-use Rattle.std.specs.Prelude.{◌≡◌, ℕ, ◌+◌, ◌^◌, Bool, true, false, List, [], ◌∷◌, length}
+use Rattle.std.specs.Prelude.{◌≡◌, ℕ, ◌+◌, ◌^◌, true, false, List, [], ◌∷◌, length}
 use Rattle.allocation.specs.declared.block.Block.{Block}
 use Rattle.allocation.specs.declared.fault.Fault.TheVariants.{Alone}
 use Rattle.allocation.specs.declared.fault.Refusal.TheVariants.{Overflow, LayoutTooLarge, RangeReversed, OffsetUnaligned}

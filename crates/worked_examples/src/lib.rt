@@ -1,5 +1,7 @@
 // SPDX-License-Identifier: Apache-2.0
 // Nine worked examples of the store's definitions, over what General and Shelf mean, proved together.
+#![tactic(auto)]
+
 ghost use Rattle.std.specs.Prelude.{◌≡◌, true};
 ghost use Rattle.worked_examples.specs.Worked.{NineExamples};
 

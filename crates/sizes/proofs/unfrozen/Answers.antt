@@ -1,4 +1,3 @@
-use Rattle.std.proofs.Common.{rules}
 use Rattle.model.specs.Book.{block_of}
 use Rattle.sizes.proofs.unfrozen.Goals as goal
 

@@ -1,6 +1,6 @@
-use Rattle.std.proofs.Common.{◌≡◌, ◌-◌, ◌^◌, ◌<◌, ◌≤◌, leb, ◌⊎◌, sym, ap, ◌∙◌, inl, inr, ⊎_elim}
+use Rattle.std.proofs.Common.{◌-◌, ◌^◌, leb, sym, ap, ◌∙◌, ⊎_elim}
 use Rattle.std.proofs.lemmas.Bool.{cases_lt, le-leb, lt-leb}
-use Rattle.allocation.specs.Alignments.{round_up, greatest_size}
+use Rattle.allocation.specs.Alignments.{greatest_size}
 use Rattle.allocation.proofs.Rounding.{size_within, size_beyond}
 use Rattle.allocation.proofs.layout.is_valid.Goals as goal
 

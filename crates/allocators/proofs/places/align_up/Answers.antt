@@ -1,4 +1,4 @@
-use Rattle.std.proofs.Common.{◌≡◌, ℕ, ◌+◌, ◌-◌, ◌%◌, ◌<◌, ◌≤◌, sym, add_assoc, arith}
+use Rattle.std.proofs.Common.{◌+◌, ◌≤◌, add_assoc, arith}
 use Rattle.allocation.specs.Alignments.{round_up}
 use Rattle.allocation.proofs.Rounding.{round_up_high, round_up_multiple, round_up_first}
 use Rattle.allocators.proofs.places.align_up.Goals as goal

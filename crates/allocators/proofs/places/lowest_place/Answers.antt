@@ -1,10 +1,10 @@
-use Rattle.std.proofs.Common.{◌≡◌, ℕ, ◌+◌, ◌-◌, ◌%◌, ◌<◌, ◌≤◌, true, false, [], ◌∷◌, ◌++◌, length, get_or, take, sym, subst, inl, inr, arith}
+use Rattle.std.proofs.Common.{◌≡◌, ℕ, ◌≤◌, true, get_or, take, sym, subst, inl, inr, arith}
 use Rattle.std.proofs.lemmas.List.{take_more, take_all}
 use Rattle.std.proofs.lemmas.Bool.{and_from, cases_Bool, cases_lt}
 use Rattle.allocation.specs.Faults.{block_at}
-use Rattle.allocators.specs.Fitting.{clear, clear_of, fits, lies}
+use Rattle.allocators.specs.Fitting.{fits, lies}
 use Rattle.allocators.specs.Tables.{no_block}
-use Rattle.allocators.specs.Blocks.{Lies, lies_from, sound_at, behind, clear_of_push, not_clear_place}
+use Rattle.allocators.specs.Blocks.{lies_from, sound_at, behind, clear_of_push, not_clear_place}
 use Rattle.allocators.proofs.places.lowest_place.Goals as goal
 
 pub apart-requires : goal.apart-requires

@@ -1,5 +1,4 @@
-use Rattle.std.proofs.Common.{◌≡◌, ◌+◌, ◌-◌, ◌*◌, length, replicate, sym, refl, ap, ◌∙◌, subst, arith}
-use Rattle.region.specs.Bytes.{overwrite}
+use Rattle.std.proofs.Common.{sym, arith}
 use Rattle.region.proofs.Writes.{overwrite_none}
 use Rattle.ledger.proofs.Appends.{joined_none}
 use Rattle.ledger.proofs.appending.write_all_behind.Goals as goal

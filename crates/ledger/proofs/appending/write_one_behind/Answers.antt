@@ -1,7 +1,4 @@
-use Rattle.std.proofs.Common.{◌≡◌, ◌+◌, ◌-◌, ◌*◌, length, replicate, sym, refl, ap, ◌∙◌, subst, arith}
-use Rattle.region.specs.Bytes.{overwrite}
-use Rattle.region.proofs.Writes.{overwrite_none}
-use Rattle.ledger.proofs.Appends.{joined_none}
+use Rattle.std.proofs.Common.{sym, arith}
 use Rattle.ledger.proofs.appending.write_one_behind.Goals as goal
 
 pub element_place-requires : goal.element_place-requires

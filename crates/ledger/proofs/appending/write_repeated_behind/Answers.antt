@@ -1,7 +1,5 @@
-use Rattle.std.proofs.Common.{◌≡◌, ◌+◌, ◌-◌, ◌*◌, length, replicate, sym, refl, ap, ◌∙◌, subst, arith}
-use Rattle.region.specs.Bytes.{overwrite}
+use Rattle.std.proofs.Common.{sym, arith}
 use Rattle.region.proofs.Writes.{overwrite_none}
-use Rattle.ledger.proofs.Appends.{joined_none}
 use Rattle.ledger.proofs.appending.write_repeated_behind.Goals as goal
 
 pub returns-then-n-eq0 : goal.returns-then-n-eq0

@@ -1,4 +1,4 @@
-use Rattle.std.proofs.Common.{◌≡◌, length, sym, refl, ap, ◌∙◌}
+use Rattle.std.proofs.Common.{length}
 use Rattle.allocation.specs.Meaning.{Meaning}
 use Rattle.ledger.proofs.Copies.{copy_long, fitting, left_goes}
 use Rattle.ledger.proofs.copying.copy_out.Goals as goal

@@ -1,4 +1,4 @@
-use Rattle.std.proofs.Common.{◌≡◌, Some, None, sym, refl, ap, ◌∙◌}
+use Rattle.std.proofs.Common.{◌≡◌, Some, None, sym, ◌∙◌}
 use Rattle.region.proofs.Writes.{overwrite_none}
 use Rattle.model.specs.Book.{shown, shown_on, block_of}
 use Rattle.ledger.proofs.moving.copy_shown.Goals as goal

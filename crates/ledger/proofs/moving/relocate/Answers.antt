@@ -1,4 +1,4 @@
-use Rattle.std.proofs.Common.{◌≡◌, sym, refl, ap, ◌∙◌}
+use Rattle.std.proofs.Common.{sym, ◌∙◌}
 use Rattle.allocation.specs.Asked.{asked}
 use Rattle.allocation.specs.Meaning.{Meaning}
 use Rattle.ledger.proofs.Movings.{by_growing, by_new_block, way_is}

@@ -1,7 +1,6 @@
-use Rattle.std.proofs.Common.{◌≡◌, true, [], ◌∷◌, ◌++◌}
+use Rattle.std.proofs.Common.{◌≡◌, [], ◌∷◌, ◌++◌}
 use Rattle.allocation.specs.Asked.{asked}
 use Rattle.allocation.specs.Faults.{block_at}
-use Rattle.allocators.specs.Fitting.{sound}
 use Rattle.allocators.specs.Tables.{held}
 use Rattle.allocators.specs.Laws.{allocates, sound_added}
 use Rattle.allocators.proofs.arena.Arena.allocate.Goals as goal

@@ -1,11 +1,10 @@
-use Rattle.std.proofs.Common.{◌≡◌, ℕ, ◌+◌, ◌<◌, ◌≤◌, true, leb, [], ◌∷◌, ◌++◌, length, arith, length-take}
+use Rattle.std.proofs.Common.{◌≡◌, ◌≤◌, leb, [], ◌∷◌, ◌++◌, length, arith, length-take}
 use Rattle.std.proofs.lemmas.Bool.{and_parts}
 use Rattle.allocation.specs.Asked.{asked}
 use Rattle.allocation.specs.Faults.{block_at, is_among}
-use Rattle.allocators.specs.Fitting.{sound}
 use Rattle.allocators.specs.Tables.{held, without}
 use Rattle.allocators.specs.Blocks.{without_length}
-use Rattle.allocators.specs.Laws.{Free, regrown_free, regrown_within, sound_regrown, grows_by}
+use Rattle.allocators.specs.Laws.{regrown_free, regrown_within, sound_regrown, grows_by}
 use Rattle.allocators.proofs.arena.Arena.grow.Goals as goal
 
 pub carry-requires : goal.carry-requires

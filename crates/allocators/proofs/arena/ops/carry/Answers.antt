@@ -1,4 +1,4 @@
-use Rattle.std.proofs.Common.{◌≡◌, ℕ, sym, ap, ◌∙◌}
+use Rattle.std.proofs.Common.{ℕ, sym, ap, ◌∙◌}
 use Rattle.region.specs.Bytes.{part, overwrite}
 use Rattle.region.proofs.Copies.{overwrite_itself}
 use Rattle.allocators.proofs.arena.ops.carry.Goals as goal

@@ -1,8 +1,8 @@
-use Rattle.std.proofs.Common.{◌≡◌, ℕ, ◌+◌, ◌-◌, ◌<◌, ◌≤◌, length, take, sym, refl, ap, ◌∙◌, arith, length-take}
+use Rattle.std.proofs.Common.{◌≡◌, ◌-◌, ◌<◌, take, sym, refl, ◌∙◌, arith, length-take}
 use Rattle.std.specs.List.{remove}
-use Rattle.allocators.specs.Tables.{no_block, held, without, Found}
+use Rattle.allocators.specs.Tables.{no_block, held, Found}
 use Rattle.allocators.specs.Blocks.{found_without, without_none}
-use Rattle.allocators.proofs.Edits.{Shifted, shifted_none, shifted_more, shifted_all}
+use Rattle.allocators.proofs.Edits.{shifted_none, shifted_more, shifted_all}
 use Rattle.allocators.proofs.table.Table.remove.Goals as goal
 
 pub returns-in_default : goal.returns-in_default

@@ -1,4 +1,4 @@
-use Rattle.std.proofs.Common.{◌≡◌, sym, ap, ◌∙◌}
+use Rattle.std.proofs.Common.{sym, ap, ◌∙◌}
 use Rattle.model.specs.Book.{serial_of, one_backing}
 use Rattle.model.specs.Keyed.{any_other}
 use Rattle.book.proofs.Walks.{any_past, any_here, any_end}

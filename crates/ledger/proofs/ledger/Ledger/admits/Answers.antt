@@ -1,8 +1,6 @@
-use Rattle.std.proofs.Common.{◌≡◌, [], ◌∷◌, Some, sym, refl, ap, ◌∙◌, arith}
+use Rattle.std.proofs.Common.{◌≡◌, Some, sym, ap, ◌∙◌, arith}
 use Rattle.std.proofs.lemmas.Result.{err_from_is_err_and}
-use Rattle.book.specs.Held.{line_at}
 use Rattle.book.proofs.Lookups.{found_at}
-use Rattle.held.specs.Whole.{parts}
 use Rattle.model.specs.Book.{State, look_up}
 use Rattle.model.specs.declared.line.Line.{Line}
 use Rattle.ledger.specs.View.{state}

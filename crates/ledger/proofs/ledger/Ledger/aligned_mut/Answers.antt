@@ -1,12 +1,12 @@
-use Rattle.std.proofs.Common.{◌≡◌, ℕ, ◌+◌, ◌-◌, ◌*◌, ◌/◌, max, Bool, true, false, not, List, [], ◌∷◌, length, sym, refl, ap, ◌∙◌, subst, arith}
+use Rattle.std.proofs.Common.{true, not, length, sym, refl, ap}
 use Rattle.std.proofs.lemmas.Result.{err_from_is_err_and}
 use Rattle.book.specs.Held.{lines_of}
 use Rattle.checks.specs.Groups.{below_kind}
 use Rattle.held.specs.Whole.{parts}
-use Rattle.model.specs.Book.{State, shared_by}
-use Rattle.model.specs.Calls.{AlignedMut, preferred_alignment}
+use Rattle.model.specs.Book.{State}
+use Rattle.model.specs.Calls.{AlignedMut}
 use Rattle.model.specs.Checks.{is_aligned, uses}
-use Rattle.model.specs.Effects.{capacity_in, unfrozen, with_claim}
+use Rattle.model.specs.Effects.{with_claim}
 use Rattle.model.specs.declared.line.Line.{Line}
 use Rattle.model.proofs.Alignments.{alignment_one}
 use Rattle.ledger.specs.View.{state}

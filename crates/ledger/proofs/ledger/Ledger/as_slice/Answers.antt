@@ -1,10 +1,8 @@
-use Rattle.std.proofs.Common.{◌≡◌, ℕ, ◌*◌, sym, refl, ap, ◌∙◌, subst}
+use Rattle.std.proofs.Common.{sym, refl, ◌∙◌, subst}
 use Rattle.held.specs.Whole.{parts}
-use Rattle.region.specs.Bytes.{part}
 use Rattle.model.specs.Book.{State, block_of}
 use Rattle.model.specs.Calls.{Read}
 use Rattle.model.specs.Invariant.{Sits}
-use Rattle.model.specs.Reads.{shown_place}
 use Rattle.ledger.specs.View.{state}
 use Rattle.ledger.proofs.Groups.{granted_reading, used}
 use Rattle.ledger.proofs.LineEdits as edits

@@ -1,4 +1,4 @@
-use Rattle.std.proofs.Common.{◌≡◌, ℕ, ◌*◌, List, map, length, replicate, sym, refl, ap, ◌∙◌, subst}
+use Rattle.std.proofs.Common.{ℕ, ◌*◌, List, map, length, sym, refl, ap, ◌∙◌, subst}
 use Rattle.std.proofs.lemmas.Result.{err_from_is_err_and}
 use Rattle.book.specs.Held.{lines_of}
 use Rattle.held.specs.Whole.{parts}
@@ -9,7 +9,7 @@ use Rattle.model.specs.Patterns.{Even}
 use Rattle.ledger.specs.Results.{Grants}
 use Rattle.ledger.specs.View.{state}
 use Rattle.ledger.proofs.Edits.{over_next}
-use Rattle.ledger.proofs.Makes.{copy_unplanned, copy_ungranted, copy_made, writable, joined_map, even_map, even_replicate, length_map, length-replicate, map_replicate}
+use Rattle.ledger.proofs.Makes.{copy_unplanned, copy_ungranted, copy_made, writable, joined_map, even_map, length_map}
 use Rattle.ledger.proofs.Ties.{after}
 use Rattle.ledger.proofs.ledger.Ledger.copy_from.Goals as goal
 

@@ -1,4 +1,3 @@
-use Rattle.std.proofs.Common.{◌≡◌, refl, ap, ◌∙◌}
 use Rattle.book.specs.Held.{lines_of}
 use Rattle.held.specs.Whole.{parts}
 use Rattle.model.specs.Book.{State}

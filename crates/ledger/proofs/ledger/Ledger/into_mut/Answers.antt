@@ -1,19 +1,16 @@
-use Rattle.std.proofs.Common.{◌≡◌, ℕ, ◌+◌, ◌-◌, ◌*◌, ◌/◌, max, Bool, true, false, not, List, [], ◌∷◌, length, sym, refl, ap, ◌∙◌, subst, arith}
+use Rattle.std.proofs.Common.{max, true, not, [], length, sym, refl, ap, ◌∙◌, subst, arith}
 use Rattle.std.proofs.lemmas.Result.{err_from_is_err_and}
 use Rattle.book.specs.Held.{lines_of}
-use Rattle.checks.specs.Groups.{below_kind}
 use Rattle.held.specs.Whole.{parts}
 use Rattle.model.specs.Book.{State, shared_by}
 use Rattle.model.specs.Calls.{IntoMut, preferred_alignment}
-use Rattle.model.specs.Checks.{is_aligned, uses}
-use Rattle.model.specs.Effects.{capacity_in, unfrozen, with_claim}
+use Rattle.model.specs.Checks.{uses}
+use Rattle.model.specs.Effects.{capacity_in, unfrozen}
 use Rattle.model.specs.declared.line.Line.{Line}
-use Rattle.model.proofs.Alignments.{alignment_one}
 use Rattle.ledger.specs.View.{state}
 use Rattle.ledger.proofs.Copies as link
 use Rattle.ledger.proofs.Edits.{over}
 use Rattle.ledger.proofs.LineEdits as edits
-use Rattle.ledger.proofs.Reserves.{mutable}
 use Rattle.ledger.proofs.Ties.{after}
 use Rattle.ledger.proofs.ledger.Ledger.into_mut.Goals as goal
 

@@ -1,4 +1,4 @@
-use Rattle.std.proofs.Common.{◌≡◌, Some, None, Option, sym, refl, ap, ◌∙◌, arith}
+use Rattle.std.proofs.Common.{Some, Option, sym, refl, ap, ◌∙◌, arith}
 use Rattle.std.proofs.lemmas.Result.{err_from_is_err_and}
 use Rattle.allocation.specs.Asked.{asked}
 use Rattle.book.specs.Held.{lines_of}
@@ -8,7 +8,7 @@ use Rattle.model.specs.Calls.{Reserve}
 use Rattle.ledger.specs.View.{state}
 use Rattle.ledger.proofs.Edits.{over}
 use Rattle.ledger.proofs.Reserves as link
-use Rattle.ledger.proofs.Ties.{after, limited}
+use Rattle.ledger.proofs.Ties.{after}
 use Rattle.ledger.proofs.ledger.Ledger.make_room.Goals as goal
 
 pub returns-then-has_room : goal.returns-then-has_room

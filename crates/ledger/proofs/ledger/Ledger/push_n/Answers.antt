@@ -1,4 +1,4 @@
-use Rattle.std.proofs.Common.{◌≡◌, ℕ, ◌+◌, ◌-◌, ◌*◌, List, [], ◌∷◌, map, length, replicate, sym, refl, ap, ◌∙◌, subst}
+use Rattle.std.proofs.Common.{ℕ, ◌+◌, ◌-◌, ◌*◌, List, length, replicate, sym, refl, ap, ◌∙◌, subst}
 use Rattle.std.proofs.lemmas.Result.{err_from_is_err_and}
 use Rattle.region.specs.Bytes.{overwrite}
 use Rattle.book.specs.Held.{lines_of}
@@ -9,7 +9,7 @@ use Rattle.model.specs.Patterns.{Even, joined}
 use Rattle.ledger.specs.View.{state}
 use Rattle.ledger.proofs.Edits.{over}
 use Rattle.ledger.proofs.Appends as link
-use Rattle.ledger.proofs.Makes.{joined_map, even_map, even_replicate, length_map, length-replicate, map_replicate}
+use Rattle.ledger.proofs.Makes.{joined_map, even_replicate, length-replicate, map_replicate}
 use Rattle.ledger.proofs.Ties.{after}
 use Rattle.ledger.proofs.ledger.Ledger.push_n.Goals as goal
 

@@ -1,9 +1,9 @@
-use Rattle.std.proofs.Common.{◌≡◌, ◌^◌, ◌<◌, Bool, not, sym, refl, ap, ◌∙◌, arith}
+use Rattle.std.proofs.Common.{not, refl, ap}
 use Rattle.std.proofs.lemmas.Result.{err_from_is_err_and}
 use Rattle.book.specs.Held.{lines_of}
 use Rattle.held.specs.Whole.{parts}
 use Rattle.model.specs.Book.{State}
-use Rattle.model.specs.Calls.{Slice, Given, Inherited, OfKind}
+use Rattle.model.specs.Calls.{Slice, Inherited}
 use Rattle.model.specs.Checks.{makes_from}
 use Rattle.ledger.specs.View.{state}
 use Rattle.ledger.proofs.Edits.{over_next}

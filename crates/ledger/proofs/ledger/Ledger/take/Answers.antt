@@ -1,11 +1,10 @@
-use Rattle.std.proofs.Common.{◌≡◌, Bool, not, sym, refl, ap, ◌∙◌}
+use Rattle.std.proofs.Common.{refl, ap}
 use Rattle.std.proofs.lemmas.Result.{err_from_is_err_and}
 use Rattle.book.specs.Held.{lines_of}
 use Rattle.held.specs.Whole.{parts}
 use Rattle.model.specs.Book.{State}
 use Rattle.model.specs.Calls.{Take}
 use Rattle.model.specs.Checks.{makes_from}
-use Rattle.model.specs.Effects.{with_backing}
 use Rattle.ledger.specs.View.{state}
 use Rattle.ledger.proofs.Edits.{over_next}
 use Rattle.ledger.proofs.Groups.{unfree}

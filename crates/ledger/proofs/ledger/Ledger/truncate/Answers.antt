@@ -1,13 +1,10 @@
-use Rattle.std.proofs.Common.{◌≡◌, ℕ, ◌+◌, ◌-◌, ◌*◌, ◌/◌, Bool, true, false, not, ◌&&◌, leb, List, [], ◌∷◌, sym, refl, ap, ◌∙◌, subst}
-use Rattle.std.proofs.lemmas.Result.{err_from_is_err_and}
+use Rattle.std.proofs.Common.{leb, [], refl, ap, ◌∙◌}
 use Rattle.book.specs.Held.{lines_of}
-use Rattle.checks.specs.Groups.{aligned_checks, regroup_checks, shared_check}
 use Rattle.held.specs.Whole.{parts}
-use Rattle.model.specs.Book.{State, shared_by}
+use Rattle.model.specs.Book.{State}
 use Rattle.model.specs.Calls.{Truncate}
 use Rattle.model.specs.Checks.{uses}
-use Rattle.model.specs.Effects.{frozen, regrouped, shortened, unfrozen, with_claim, with_len}
-use Rattle.model.specs.Kinds.{byte}
+use Rattle.model.specs.Effects.{shortened}
 use Rattle.model.specs.declared.line.Line.{Line}
 use Rattle.ledger.specs.View.{state}
 use Rattle.ledger.proofs.Edits.{over}

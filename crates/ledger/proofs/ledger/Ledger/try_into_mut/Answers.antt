@@ -1,13 +1,12 @@
-use Rattle.std.proofs.Common.{◌≡◌, ℕ, ◌+◌, ◌-◌, ◌*◌, ◌/◌, Bool, true, false, not, ◌&&◌, leb, List, [], ◌∷◌, sym, refl, ap, ◌∙◌, subst}
+use Rattle.std.proofs.Common.{not, sym, refl, ap, ◌∙◌, subst}
 use Rattle.std.proofs.lemmas.Result.{err_from_is_err_and}
 use Rattle.book.specs.Held.{lines_of}
-use Rattle.checks.specs.Groups.{aligned_checks, regroup_checks, shared_check}
+use Rattle.checks.specs.Groups.{shared_check}
 use Rattle.held.specs.Whole.{parts}
 use Rattle.model.specs.Book.{State, shared_by}
 use Rattle.model.specs.Calls.{TryIntoMut}
 use Rattle.model.specs.Checks.{uses}
-use Rattle.model.specs.Effects.{frozen, regrouped, shortened, unfrozen, with_claim, with_len}
-use Rattle.model.specs.Kinds.{byte}
+use Rattle.model.specs.Effects.{unfrozen}
 use Rattle.model.specs.declared.line.Line.{Line}
 use Rattle.ledger.specs.View.{state}
 use Rattle.ledger.proofs.Edits.{over}

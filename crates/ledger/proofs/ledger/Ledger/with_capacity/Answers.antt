@@ -1,4 +1,4 @@
-use Rattle.std.proofs.Common.{◌≡◌, true, refl}
+use Rattle.std.proofs.Common.{true, refl}
 use Rattle.book.specs.Held.{lines_of}
 use Rattle.held.specs.Whole.{parts}
 use Rattle.model.specs.Book.{State}
