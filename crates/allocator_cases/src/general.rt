@@ -5,7 +5,6 @@ mod tests {
     use crate::replay::{Answer, Call, Step, block, fill, layout, replay};
     use allocation::allocation::Allocator;
     use allocators::general::General;
-    use std::process::Abort;
     use std::test::Fail;
 
     // base 65,536, 2,048 bytes: gaps are filled from below, and growth needs a place beside the old block
@@ -220,28 +219,28 @@ mod tests {
         },
     ];
 
-    fn case(rt: &impl Abort, base: usize, region: &mut [u8], steps: &[Step]) -> Result<(), Fail> {
+    fn case(base: usize, region: &mut [u8], steps: &[Step]) -> Result<(), Fail> {
         let mut general = General::new(base, region.len())?;
-        replay(rt, &mut general, region, steps)
+        replay(&mut general, region, steps)
     }
 
     #[test]
-    fn places(rt: HostRuntime) -> Result<(), Fail> {
+    fn places() -> Result<(), Fail> {
         let mut small = [0u8; 1024];
         let mut middle = [0u8; 2048];
         let mut large = [0u8; 4096];
-        case(&rt, 65536, &mut middle, &FITS)?;
-        case(&rt, 63488, &mut large, &ALIGNED)?;
-        case(&rt, 1, &mut small, &ODD)
+        case(65536, &mut middle, &FITS)?;
+        case(63488, &mut large, &ALIGNED)?;
+        case(1, &mut small, &ODD)
     }
 
     #[test]
-    fn tables(rt: HostRuntime) -> Result<(), Fail> {
+    fn tables() -> Result<(), Fail> {
         let mut region = [0u8; 1024];
         let mut general = General::new(65536, 1024)?;
-        fill(&rt, &mut general, &region)?;
-        replay(&rt, &mut general, &mut region, &FULL)?;
-        replay(&rt, &mut general, &mut region[0..1023], &WRONG)
+        fill(&mut general, &region)?;
+        replay(&mut general, &mut region, &FULL)?;
+        replay(&mut general, &mut region[0..1023], &WRONG)
     }
 
     // Growth brings the bytes along and writes no other; a block is zeroed and nothing beside it.

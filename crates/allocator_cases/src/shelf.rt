@@ -131,17 +131,17 @@ mod tests {
     ];
 
     #[test]
-    fn stacked(rt: HostRuntime) -> Result<(), Fail> {
+    fn stacked() -> Result<(), Fail> {
         let mut region = [0u8; 2048];
         let mut shelf = Shelf::new(65536, 2048)?;
-        replay(&rt, &mut shelf, &mut region, &STACKED)
+        replay(&mut shelf, &mut region, &STACKED)
     }
 
     #[test]
-    fn full_table(rt: HostRuntime) -> Result<(), Fail> {
+    fn full_table() -> Result<(), Fail> {
         let mut region = [0u8; 1024];
         let mut shelf = Shelf::new(65536, 1024)?;
-        fill(&rt, &mut shelf, &region)?;
-        replay(&rt, &mut shelf, &mut region, &FULL)
+        fill(&mut shelf, &region)?;
+        replay(&mut shelf, &mut region, &FULL)
     }
 }

@@ -1,6 +1,6 @@
 -- Lists of values and their bytes, from the law of a kind.
 use Rattle.std.proofs.Common.{◌≡◌, ℕ, zero, suc, ◌+◌, ◌*◌, ◌<◌, List, [], ◌∷◌, ◌++◌, map, length, get_or, take, drop, sym, refl, ap, ◌∙◌, suc-mul, arith}
-use Rattle.std.specs.List.{flat_map, AllByRecursion as All}
+use Rattle.std.specs.List.{flat_map, AllByRecursion}
 use Rattle.std.proofs.lemmas.List.{drop-drop, length-append, length-drop, length-take-le, nil_from_length, take-append-drop, take_at, drop_at}
 use Rattle.region.specs.Bytes.{part}
 use Rattle.element.specs.Columns.{Columns}
@@ -51,7 +51,7 @@ module _ {K : Type 0} (w : ℕ) (f : K → List ℕ) (law : OneToOne w f) where
       let rest = values_of n (drop w bs) (length-drop w bs ∙ omega arith) (bytes_drop w bs p) in
       (x.0 ∷ rest.0, ap suc rest.1, ap (λ b. b ++ flat_map f rest.0) x.1 ∙ ap (λ b. take w bs ++ b) rest.2 ∙ take-append-drop w bs)
 
-  wide_each : (xs : List K) → All (λ p. length p ≡ w) (map f xs)
+  wide_each : (xs : List K) → AllByRecursion (λ p. length p ≡ w) (map f xs)
   wide_each [] = tt
   wide_each (x ∷ xs) = (law.long x, wide_each xs)
 

@@ -1,6 +1,6 @@
 -- What the law of a kind says of whole columns.
 use Rattle.std.specs.Prelude.{◌≡◌, ℕ, ◌*◌, ◌<◌, ◌↔◌, List, map, length, slice_index_or}
-use Rattle.std.specs.List.{flat_map, AllByRecursion as All}
+use Rattle.std.specs.List.{flat_map, AllByRecursion}
 use Rattle.region.specs.Bytes.{part}
 use Rattle.element.specs.Patterns.{Bytes}
 
@@ -11,7 +11,7 @@ pub record Columns {K : Type 0} (width : ℕ) (pattern : K → List ℕ) : Type 
   -- and so are the bytes that the patterns make, one behind another
   pub bytes : (xs ys : List K) → (flat_map pattern xs ≡ flat_map pattern ys) ↔ (xs ≡ ys)
   -- each pattern is as long as the kind is wide, and the patterns joined are those bytes
-  pub wide : (xs : List K) → All (λ p. length p ≡ width) (map pattern xs)
+  pub wide : (xs : List K) → AllByRecursion (λ p. length p ≡ width) (map pattern xs)
   pub joins : (xs : List K) → flat_map (λ p. p) (map pattern xs) ≡ flat_map pattern xs
   -- as many bytes as values, times the width
   pub long : (xs : List K) → length (flat_map pattern xs) ≡ length xs * width
