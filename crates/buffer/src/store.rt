@@ -15,7 +15,6 @@ use ledger::ledger::Ledger;
 use ledger::refused::Refused;
 use model::line::Line;
 
-#[derive(Drop)]
 pub struct Store<B: Allocator> {
     pub(crate) ledger: Ledger<B>,
 }

@@ -11,7 +11,6 @@ use book::book::Book;
 use held::held::Held;
 
 // An allocator, the store's number, the serial of the next handle, and the book of the live handles.
-#[derive(Drop)]
 pub struct Ledger<B: Allocator> {
     pub(crate) allocator: Held<B>,
     pub(crate) number: u32,
