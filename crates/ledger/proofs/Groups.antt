@@ -44,10 +44,6 @@ module _ (st : State) (h : Handle) (c : Call) where
 pub granted_reading : (st : State) (h : Handle) → refusal (checks st (length st.bytes) (read h)) ≡ None → Grants st (read h) 0 st
 granted_reading st h p = (done, refl, (p, (refl, refl)))
 
--- reading a handle that the store knows
-pub told : (st : State) (h : Handle) → refusal (entry st h) ≡ None → Grants st (read h) 0 st
-told st h p = granted_reading st h (used st h (read h) refl p)
-
 -- a call that brings no handle and makes one
 module _ (st : State) (c : Call) (e : brings c ≡ bringing [] true) where
   pub opened : refusal (opening st) ≡ None → refusal (checks st (length st.bytes) c) ≡ refusal (own st c)
