@@ -1,5 +1,6 @@
 -- When each operation of an allocator is refused, and with what.
-use Rattle.std.specs.Prelude.{ℕ, Bool, true, false, cond, ◌&&◌, ◌||◌, List, [], ◌∷◌, Some, None, Option, ◌==◌, nat_le}
+use Rattle.std.specs.Prelude.{ℕ, Bool, true, false, cond, ◌&&◌, List, [], ◌∷◌, Some, None, Option, ◌==◌, nat_le}
+use Rattle.std.specs.List.{list_any}
 use Rattle.allocation.specs.declared.block.Block.{Block}
 use Rattle.allocation.specs.declared.block.Request.{Request}
 use Rattle.allocation.specs.declared.fault.Fault.{Fault}
@@ -22,8 +23,7 @@ same_block b c = b.place == c.place && (b.size == c.size && b.align == c.align)
 
 -- is the block among these?
 abbrev pub is_among : Block → List Block → Bool
-is_among b [] = false
-is_among b (c ∷ cs) = same_block c b || is_among b cs
+is_among b = list_any (λ c. same_block c b)
 
 -- is there any block?
 abbrev pub any_block : List Block → Bool

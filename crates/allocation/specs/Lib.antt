@@ -3,3 +3,4 @@ pub mod Refusals
 pub mod Meaning
 pub mod Faults
 pub mod Asked
+pub mod Outcomes

@@ -22,6 +22,7 @@ pub struct Alignment {
     ghost small: { exponent ≤ greatest_exponent },
 }
 
+// Its conversions have the names of the Rust crate.
 impl Alignment {
     // The alignment of an exponent that was read from outside.
     pub fn try_from_untrusted_exponent(exponent: u8) -> Result<Alignment, Refusal>
@@ -76,6 +77,6 @@ impl Alignment {
     pub fn is_offset_aligned(self, offset: usize) -> bool
         ensures { result ≡ (offset % (2 ^ self.exponent) == 0) }
     {
-        offset % self.as_usize() == 0
+        offset.is_multiple_of(self.as_usize())
     }
 }

@@ -1,10 +1,10 @@
 // SPDX-License-Identifier: Apache-2.0
 // Works over src/allocation.rs of vortex-buffer 0.90.0, after the published page on `core::alloc::Allocator`.
-ghost use Rattle.std.specs.Prelude.{◌≡◌, length, replicate, Some, None, MatchResult};
-ghost use Rattle.region.specs.Bytes.{overwrite};
+ghost use Rattle.std.specs.Prelude.{◌≡◌, length, Some, None, MatchResult};
 ghost use Rattle.allocation.specs.Asked.{asked};
-ghost use Rattle.allocation.specs.Faults.{block_at, request_of, is_among, any_block, allocate_fault, deallocate_fault, grow_fault};
-ghost use Rattle.allocation.specs.Meaning.{Meaning, Lawful, Allocates, Frees, Grows};
+ghost use Rattle.allocation.specs.Faults.{block_at, is_among, any_block, grow_fault};
+ghost use Rattle.allocation.specs.Meaning.{Meaning, Lawful, Grows};
+ghost use Rattle.allocation.specs.Outcomes.{Allocated, AllocatedZeroed, Freed, Grown};
 
 use crate::block::Block;
 use crate::fault::Fault;
@@ -49,21 +49,11 @@ pub trait Allocator {
 
     // Adds a block of exactly the layout, and answers its place.
     fn allocate(&mut self, region: &[u8], layout: Layout) -> Result<usize, Fault>
-        ensures outcome { MatchResult result
-            (λ p. (allocate_fault (meaning self.old) (length region.now) (asked layout) ≡ None)
-            × Allocates (meaning self.old) (asked layout) (block_at p (asked layout)) (meaning self.new))
-            (λ f. (allocate_fault (meaning self.old) (length region.now) (asked layout) ≡ Some f)
-            × (meaning self.new ≡ meaning self.old)) };
+        ensures outcome { let r = asked layout in Allocated (λ p. block_at p r) (meaning self.old) (length region.now) r result (meaning self.new) };
 
     // The same, and sets just the block to zero.
     fn allocate_zeroed(&mut self, region: &mut [u8], layout: Layout) -> Result<usize, Fault>
-        ensures outcome { MatchResult result
-            (λ p. (allocate_fault (meaning self.old) (length region.old) (asked layout) ≡ None)
-            × Allocates (meaning self.old) (asked layout) (block_at p (asked layout)) (meaning self.new)
-            × (region.new ≡ overwrite p (replicate layout.size 0) region.old))
-            (λ f. (allocate_fault (meaning self.old) (length region.old) (asked layout) ≡ Some f)
-            × (meaning self.new ≡ meaning self.old)
-            × (region.new ≡ region.old)) }
+        ensures outcome { let r = asked layout in AllocatedZeroed (λ p. block_at p r) (meaning self.old) region.old r result (meaning self.new) region.new }
     {
         let place = self.allocate(region, layout)?;
         zero_within(region, place, layout.size());
@@ -72,20 +62,11 @@ pub trait Allocator {
 
     // Removes a live block.
     fn deallocate(&mut self, region: &[u8], block: Block) -> Result<(), Fault>
-        ensures outcome { MatchResult result
-            (λ _. (deallocate_fault (meaning self.old) (length region.now) block ≡ None)
-            × Frees (meaning self.old) block (meaning self.new))
-            (λ f. (deallocate_fault (meaning self.old) (length region.now) block ≡ Some f)
-            × (meaning self.new ≡ meaning self.old)) };
+        ensures outcome { Freed (meaning self.old) (length region.now) block result (meaning self.new) };
 
     // Replaces a live block by one of exactly the layout, its first bytes the old block's, and answers its place.
     fn grow(&mut self, region: &mut [u8], block: Block, layout: Layout) -> Result<usize, Fault>
-        ensures outcome { MatchResult result
-            (λ p. (grow_fault (meaning self.old) (length region.old) block (asked layout) ≡ None)
-            × Grows (meaning self.old) block (asked layout) (block_at p (asked layout)) (meaning self.new) region.old region.new)
-            (λ f. (grow_fault (meaning self.old) (length region.old) block (asked layout) ≡ Some f)
-            × (meaning self.new ≡ meaning self.old)
-            × (region.new ≡ region.old)) };
+        ensures outcome { let r = asked layout in Grown (λ p. block_at p r) (meaning self.old) region.old block r result (meaning self.new) region.new };
 
     ghost lawful: { (a : Self) → Lawful (meaning a) };
 }
@@ -103,14 +84,12 @@ impl Allocation {
         region: &[u8],
         layout: Layout,
     ) -> Result<Allocation, Fault>
-        ensures outcome { MatchResult result
-            (λ a. (allocate_fault (B.Allocator.meaning allocator.old) (length region.now) (asked layout) ≡ None)
-            × Allocates (B.Allocator.meaning allocator.old) (asked layout) a.block (B.Allocator.meaning allocator.new))
-            (λ f. (allocate_fault (B.Allocator.meaning allocator.old) (length region.now) (asked layout) ≡ Some f)
-            × (B.Allocator.meaning allocator.new ≡ B.Allocator.meaning allocator.old)) }
+        ensures outcome { Allocated (λ a. a.block) (B.meaning allocator.old) (length region.now) (asked layout) result (B.meaning allocator.new) }
     {
         let place = allocator.allocate(region, layout)?;
-        Ok(Allocation::at(place, layout))
+        Ok(Allocation {
+            block: Block::at(place, layout),
+        })
     }
 
     // The same, and sets just the block to zero.
@@ -119,29 +98,12 @@ impl Allocation {
         region: &mut [u8],
         layout: Layout,
     ) -> Result<Allocation, Fault>
-        ensures outcome { MatchResult result
-            (λ a. (allocate_fault (B.Allocator.meaning allocator.old) (length region.old) (asked layout) ≡ None)
-            × Allocates (B.Allocator.meaning allocator.old) (asked layout) a.block (B.Allocator.meaning allocator.new)
-            × (region.new ≡ overwrite a.block.place (replicate a.block.size 0) region.old))
-            (λ f. (allocate_fault (B.Allocator.meaning allocator.old) (length region.old) (asked layout) ≡ Some f)
-            × (B.Allocator.meaning allocator.new ≡ B.Allocator.meaning allocator.old)
-            × (region.new ≡ region.old)) }
+        ensures outcome { AllocatedZeroed (λ a. a.block) (B.meaning allocator.old) region.old (asked layout) result (B.meaning allocator.new) region.new }
     {
         let place = allocator.allocate_zeroed(region, layout)?;
-        Ok(Allocation::at(place, layout))
-    }
-
-    // The block of a layout at a place.
-    fn at(place: usize, layout: Layout) -> Allocation
-        ensures { result.block ≡ block_at place (asked layout) }
-    {
-        Allocation {
-            block: Block {
-                place,
-                size: layout.size(),
-                align: layout.align().as_usize(),
-            },
-        }
+        Ok(Allocation {
+            block: Block::at(place, layout),
+        })
     }
 
     // Where the block starts, counted from the region's start.
@@ -173,25 +135,21 @@ impl Allocation {
         layout: Layout,
     ) -> Result<(), Fault>
         ensures outcome { MatchResult result
-            (λ _. (grow_fault (B.Allocator.meaning allocator.old) (length region.old) self.old.block (asked layout) ≡ None)
-            × Grows (B.Allocator.meaning allocator.old) self.old.block (asked layout) self.new.block (B.Allocator.meaning allocator.new) region.old region.new)
-            (λ f. (grow_fault (B.Allocator.meaning allocator.old) (length region.old) self.old.block (asked layout) ≡ Some f)
+            (λ _. (grow_fault (B.meaning allocator.old) (length region.old) self.old.block (asked layout) ≡ None)
+            × Grows (B.meaning allocator.old) self.old.block (asked layout) self.new.block (B.meaning allocator.new) region.old region.new)
+            (λ f. (grow_fault (B.meaning allocator.old) (length region.old) self.old.block (asked layout) ≡ Some f)
             × (self.new ≡ self.old)
-            × (B.Allocator.meaning allocator.new ≡ B.Allocator.meaning allocator.old)
+            × (B.meaning allocator.new ≡ B.meaning allocator.old)
             × (region.new ≡ region.old)) }
     {
         let place = allocator.grow(region, self.block, layout)?;
-        *self = Allocation::at(place, layout);
+        self.block = Block::at(place, layout);
         Ok(())
     }
 
     // Gives the block back.
     pub fn release<B: Allocator>(self, allocator: &mut B, region: &[u8]) -> Result<(), Fault>
-        ensures outcome { MatchResult result
-            (λ _. (deallocate_fault (B.Allocator.meaning allocator.old) (length region.now) self.block ≡ None)
-            × Frees (B.Allocator.meaning allocator.old) self.block (B.Allocator.meaning allocator.new))
-            (λ f. (deallocate_fault (B.Allocator.meaning allocator.old) (length region.now) self.block ≡ Some f)
-            × (B.Allocator.meaning allocator.new ≡ B.Allocator.meaning allocator.old)) }
+        ensures outcome { Freed (B.meaning allocator.old) (length region.now) self.block result (B.meaning allocator.new) }
     {
         allocator.deallocate(region, self.block)
     }

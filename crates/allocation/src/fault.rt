@@ -1,33 +1,34 @@
 // SPDX-License-Identifier: Apache-2.0
 // Why a call was refused, and what travels with it to the caller.
 ghost use Rattle.std.specs.Prelude.{◌≡◌};
-ghost use Rattle.allocation.specs.declared.fault.Fault.TheVariants.{Alone};
+ghost use Rattle.allocation.specs.declared.fault.Fault.TheVariants.{Alone, Asked};
+ghost use Rattle.allocation.specs.declared.fault.Layer.TheVariants.{Allocator};
 ghost use Rattle.allocation.specs.Refusals.{number, refusal_of};
 
 use crate::block::Request;
 use std::fmt;
 
-// Why a call was refused.
+// Why a call was refused, by the number that stands for it.
 #[derive(Clone, Copy, PartialEq, Eq, Debug)]
 pub enum Refusal {
-    RegionDiffers,
-    UnknownHandle,
-    NoHandleLeft,
-    ExponentTooLarge,
-    AlignmentTooLarge,
-    BelowKindAlignment,
-    Overflow,
-    LayoutTooLarge,
-    NotGranted,
-    BoundOverflow,
-    RangeReversed,
-    RangeBeyondLength,
-    OffsetUnaligned,
-    StartUnaligned,
-    PartialElement,
-    IndexBeyondLength,
-    BackingShared,
-    NoSuchBlock,
+    RegionDiffers = 1,
+    UnknownHandle = 2,
+    NoHandleLeft = 3,
+    ExponentTooLarge = 4,
+    AlignmentTooLarge = 5,
+    BelowKindAlignment = 6,
+    Overflow = 7,
+    LayoutTooLarge = 8,
+    NotGranted = 9,
+    BoundOverflow = 10,
+    RangeReversed = 11,
+    RangeBeyondLength = 12,
+    OffsetUnaligned = 13,
+    StartUnaligned = 14,
+    PartialElement = 15,
+    IndexBeyondLength = 16,
+    BackingShared = 17,
+    NoSuchBlock = 18,
 }
 
 impl Refusal {
@@ -35,26 +36,7 @@ impl Refusal {
     pub fn number(self) -> u8
         ensures { result ≡ number self }
     {
-        match self {
-            Refusal::RegionDiffers => 1,
-            Refusal::UnknownHandle => 2,
-            Refusal::NoHandleLeft => 3,
-            Refusal::ExponentTooLarge => 4,
-            Refusal::AlignmentTooLarge => 5,
-            Refusal::BelowKindAlignment => 6,
-            Refusal::Overflow => 7,
-            Refusal::LayoutTooLarge => 8,
-            Refusal::NotGranted => 9,
-            Refusal::BoundOverflow => 10,
-            Refusal::RangeReversed => 11,
-            Refusal::RangeBeyondLength => 12,
-            Refusal::OffsetUnaligned => 13,
-            Refusal::StartUnaligned => 14,
-            Refusal::PartialElement => 15,
-            Refusal::IndexBeyondLength => 16,
-            Refusal::BackingShared => 17,
-            Refusal::NoSuchBlock => 18,
-        }
+        self as u8
     }
 
     fn words(self) -> &'static str {
@@ -95,6 +77,13 @@ pub enum Fault {
 }
 
 impl Fault {
+    // An allocator's own refusal, with what was asked for.
+    pub fn by_allocator(refusal: Refusal, request: Request) -> Fault
+        ensures { result ≡ Asked refusal Allocator request }
+    {
+        Fault::Asked(refusal, Layer::Allocator, request)
+    }
+
     // Why the call was refused.
     pub fn refusal(self) -> Refusal
         ensures { result ≡ refusal_of self }

@@ -2,221 +2,79 @@
 // General: the lowest place that fits; every growth moves.
 #[cfg(test)]
 mod tests {
-    use crate::replay::{Answer, Call, Step, block, fill, layout, replay};
+    use crate::replay::Step::{Allocate, Deallocate, Grow};
+    use crate::replay::{Step, block, fill, layout, replay};
     use allocation::allocation::Allocator;
+    use allocation::fault::Refusal::{self, NoSuchBlock, NotGranted, RegionDiffers};
     use allocators::general::General;
     use std::test::Fail;
 
     // base 65,536, 2,048 bytes: gaps are filled from below, and growth needs a place beside the old block
-    static FITS: [Step; 24] = [
-        Step {
-            call: Call::Allocate(1, 0),
-            answer: Answer::At(0),
-        },
-        Step {
-            call: Call::Allocate(1, 3),
-            answer: Answer::At(8),
-        },
-        Step {
-            call: Call::Allocate(7, 0),
-            answer: Answer::At(1),
-        },
-        Step {
-            call: Call::Allocate(8, 0),
-            answer: Answer::At(9),
-        },
-        Step {
-            call: Call::Allocate(0, 0),
-            answer: Answer::Refused(18),
-        },
-        Step {
-            call: Call::Allocate(2049, 0),
-            answer: Answer::Refused(9),
-        },
-        Step {
-            call: Call::Allocate(2032, 0),
-            answer: Answer::Refused(9),
-        },
-        Step {
-            call: Call::Allocate(2031, 0),
-            answer: Answer::At(17),
-        },
-        Step {
-            call: Call::Allocate(1, 0),
-            answer: Answer::Refused(9),
-        },
-        Step {
-            call: Call::Deallocate(17, 2031, 1),
-            answer: Answer::Refused(18),
-        },
-        Step {
-            call: Call::Deallocate(17, 2030, 0),
-            answer: Answer::Refused(18),
-        },
-        Step {
-            call: Call::Deallocate(16, 2031, 0),
-            answer: Answer::Refused(18),
-        },
-        Step {
-            call: Call::Deallocate(17, 2031, 0),
-            answer: Answer::Done,
-        },
-        Step {
-            call: Call::Deallocate(17, 2031, 0),
-            answer: Answer::Refused(18),
-        },
-        Step {
-            call: Call::Allocate(16, 4),
-            answer: Answer::At(32),
-        },
-        Step {
-            call: Call::Allocate(15, 0),
-            answer: Answer::At(17),
-        },
-        Step {
-            call: Call::Grow(1, 7, 0, 7, 0),
-            answer: Answer::At(48),
-        },
-        Step {
-            call: Call::Grow(1, 7, 0, 8, 0),
-            answer: Answer::Refused(18),
-        },
-        Step {
-            call: Call::Allocate(7, 0),
-            answer: Answer::At(1),
-        },
-        Step {
-            call: Call::Grow(48, 7, 0, 6, 0),
-            answer: Answer::Refused(18),
-        },
-        Step {
-            call: Call::Grow(48, 7, 0, 0, 0),
-            answer: Answer::Refused(18),
-        },
-        Step {
-            call: Call::Grow(48, 7, 0, 1994, 0),
-            answer: Answer::Refused(9),
-        },
-        Step {
-            call: Call::Grow(48, 7, 0, 1993, 0),
-            answer: Answer::At(55),
-        },
-        Step {
-            call: Call::Allocate(1, 16),
-            answer: Answer::Refused(9),
-        },
+    static FITS: &[Step] = &[
+        Allocate((1, 0), Ok(0)),
+        Allocate((1, 3), Ok(8)),
+        Allocate((7, 0), Ok(1)),
+        Allocate((8, 0), Ok(9)),
+        Allocate((0, 0), Err(NoSuchBlock)),
+        Allocate((2049, 0), Err(NotGranted)),
+        Allocate((2032, 0), Err(NotGranted)),
+        Allocate((2031, 0), Ok(17)),
+        Allocate((1, 0), Err(NotGranted)),
+        Deallocate((17, 2031, 1), Err(NoSuchBlock)),
+        Deallocate((17, 2030, 0), Err(NoSuchBlock)),
+        Deallocate((16, 2031, 0), Err(NoSuchBlock)),
+        Deallocate((17, 2031, 0), Ok(())),
+        Deallocate((17, 2031, 0), Err(NoSuchBlock)),
+        Allocate((16, 4), Ok(32)),
+        Allocate((15, 0), Ok(17)),
+        Grow((1, 7, 0), (7, 0), Ok(48)),
+        Grow((1, 7, 0), (8, 0), Err(NoSuchBlock)),
+        Allocate((7, 0), Ok(1)),
+        Grow((48, 7, 0), (6, 0), Err(NoSuchBlock)),
+        Grow((48, 7, 0), (0, 0), Err(NoSuchBlock)),
+        Grow((48, 7, 0), (1994, 0), Err(NotGranted)),
+        Grow((48, 7, 0), (1993, 0), Ok(55)),
+        Allocate((1, 16), Err(NotGranted)),
     ];
 
     // base 63,488, 4,096 bytes: alignments up to 65,536 count from address 0
-    static ALIGNED: [Step; 6] = [
-        Step {
-            call: Call::Allocate(2048, 16),
-            answer: Answer::At(2048),
-        },
-        Step {
-            call: Call::Allocate(1, 16),
-            answer: Answer::Refused(9),
-        },
-        Step {
-            call: Call::Allocate(1024, 10),
-            answer: Answer::At(0),
-        },
-        Step {
-            call: Call::Allocate(1024, 11),
-            answer: Answer::Refused(9),
-        },
-        Step {
-            call: Call::Allocate(1024, 10),
-            answer: Answer::At(1024),
-        },
-        Step {
-            call: Call::Allocate(1, 0),
-            answer: Answer::Refused(9),
-        },
+    static ALIGNED: &[Step] = &[
+        Allocate((2048, 16), Ok(2048)),
+        Allocate((1, 16), Err(NotGranted)),
+        Allocate((1024, 10), Ok(0)),
+        Allocate((1024, 11), Err(NotGranted)),
+        Allocate((1024, 10), Ok(1024)),
+        Allocate((1, 0), Err(NotGranted)),
     ];
 
     // base 1, 1,024 bytes: no place is its own address
-    static ODD: [Step; 9] = [
-        Step {
-            call: Call::Allocate(1, 1),
-            answer: Answer::At(1),
-        },
-        Step {
-            call: Call::Allocate(1, 2),
-            answer: Answer::At(3),
-        },
-        Step {
-            call: Call::Allocate(1, 0),
-            answer: Answer::At(0),
-        },
-        Step {
-            call: Call::Allocate(1, 0),
-            answer: Answer::At(2),
-        },
-        Step {
-            call: Call::Allocate(1, 8),
-            answer: Answer::At(255),
-        },
-        Step {
-            call: Call::Allocate(769, 0),
-            answer: Answer::Refused(9),
-        },
-        Step {
-            call: Call::Allocate(768, 0),
-            answer: Answer::At(256),
-        },
-        Step {
-            call: Call::Allocate(251, 0),
-            answer: Answer::At(4),
-        },
-        Step {
-            call: Call::Allocate(1, 0),
-            answer: Answer::Refused(9),
-        },
+    static ODD: &[Step] = &[
+        Allocate((1, 1), Ok(1)),
+        Allocate((1, 2), Ok(3)),
+        Allocate((1, 0), Ok(0)),
+        Allocate((1, 0), Ok(2)),
+        Allocate((1, 8), Ok(255)),
+        Allocate((769, 0), Err(NotGranted)),
+        Allocate((768, 0), Ok(256)),
+        Allocate((251, 0), Ok(4)),
+        Allocate((1, 0), Err(NotGranted)),
     ];
 
     // a region of another length is refused before anything else is looked at
-    static WRONG: [Step; 4] = [
-        Step {
-            call: Call::Allocate(0, 0),
-            answer: Answer::Refused(1),
-        },
-        Step {
-            call: Call::Allocate(8, 0),
-            answer: Answer::Refused(1),
-        },
-        Step {
-            call: Call::Deallocate(0, 8, 0),
-            answer: Answer::Refused(1),
-        },
-        Step {
-            call: Call::Grow(0, 8, 0, 4, 0),
-            answer: Answer::Refused(1),
-        },
+    static WRONG: &[Step] = &[
+        Allocate((0, 0), Err(RegionDiffers)),
+        Allocate((8, 0), Err(RegionDiffers)),
+        Deallocate((0, 8, 0), Err(RegionDiffers)),
+        Grow((0, 8, 0), (4, 0), Err(RegionDiffers)),
     ];
 
     // 64 blocks of 8 bytes in 1,024: growth needs a free line, whatever room there is
-    static FULL: [Step; 5] = [
-        Step {
-            call: Call::Allocate(8, 0),
-            answer: Answer::Refused(9),
-        },
-        Step {
-            call: Call::Grow(0, 8, 0, 8, 0),
-            answer: Answer::Refused(9),
-        },
-        Step {
-            call: Call::Deallocate(504, 8, 0),
-            answer: Answer::Done,
-        },
-        Step {
-            call: Call::Grow(0, 8, 0, 8, 0),
-            answer: Answer::At(504),
-        },
-        Step {
-            call: Call::Allocate(8, 0),
-            answer: Answer::At(0),
-        },
+    static FULL: &[Step] = &[
+        Allocate((8, 0), Err(NotGranted)),
+        Grow((0, 8, 0), (8, 0), Err(NotGranted)),
+        Deallocate((504, 8, 0), Ok(())),
+        Grow((0, 8, 0), (8, 0), Ok(504)),
+        Allocate((8, 0), Ok(0)),
     ];
 
     fn case(base: usize, region: &mut [u8], steps: &[Step]) -> Result<(), Fail> {
@@ -229,9 +87,9 @@ mod tests {
         let mut small = [0u8; 1024];
         let mut middle = [0u8; 2048];
         let mut large = [0u8; 4096];
-        case(65536, &mut middle, &FITS)?;
-        case(63488, &mut large, &ALIGNED)?;
-        case(1, &mut small, &ODD)
+        case(65536, &mut middle, FITS)?;
+        case(63488, &mut large, ALIGNED)?;
+        case(1, &mut small, ODD)
     }
 
     #[test]
@@ -239,8 +97,8 @@ mod tests {
         let mut region = [0u8; 1024];
         let mut general = General::new(65536, 1024)?;
         fill(&mut general, &region)?;
-        replay(&mut general, &mut region, &FULL)?;
-        replay(&mut general, &mut region[0..1023], &WRONG)
+        replay(&mut general, &mut region, FULL)?;
+        replay(&mut general, &mut region[0..1023], WRONG)
     }
 
     // Growth brings the bytes along and writes no other; a block is zeroed and nothing beside it.
@@ -261,17 +119,18 @@ mod tests {
         Ok(())
     }
 
-    fn made(base: usize, extent: usize) -> u8 {
-        match General::new(base, extent) {
-            Ok(_) => 0,
-            Err(refusal) => refusal.number(),
-        }
+    // Why there is no allocator of that region; none where there is one.
+    fn refused(base: usize, extent: usize) -> Option<Refusal> {
+        General::new(base, extent).err()
     }
 
     #[test]
     fn limits(rt: HostRuntime) {
-        assert!(rt; made(0, 1024) == 1 && made(1, 1023) == 1 && made(1, 1024) == 0);
-        assert!(rt; made(1 << 47, 1 << 32) == 0);
-        assert!(rt; made((1 << 47) + 1, 1 << 32) == 1 && made(1, (1 << 32) + 1) == 1);
+        assert_eq!(rt; refused(0, 1024), Some(RegionDiffers));
+        assert_eq!(rt; refused(1, 1023), Some(RegionDiffers));
+        assert_eq!(rt; refused(1, 1024), None);
+        assert_eq!(rt; refused(1 << 47, 1 << 32), None);
+        assert_eq!(rt; refused((1 << 47) + 1, 1 << 32), Some(RegionDiffers));
+        assert_eq!(rt; refused(1, (1 << 32) + 1), Some(RegionDiffers));
     }
 }

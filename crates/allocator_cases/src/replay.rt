@@ -5,27 +5,15 @@ use allocation::allocation::Allocator;
 use allocation::block::Block;
 use allocation::fault::{Fault, Refusal};
 use allocation::layout::Layout;
+use std::fmt::Debug;
 use std::test::Fail;
 
-// A call by its numbers: each layout is a size and an exponent, each block its place and layout.
+// A call by its numbers and then its answer: each layout is a size and an exponent, each block its place and layout.
 #[derive(Clone, Copy)]
-pub enum Call {
-    Allocate(usize, u8),
-    Deallocate(usize, usize, u8),
-    Grow(usize, usize, u8, usize, u8),
-}
-
-#[derive(Clone, Copy, PartialEq, Eq, Debug)]
-pub enum Answer {
-    At(usize),
-    Done,
-    Refused(u8),
-}
-
-#[derive(Clone, Copy)]
-pub struct Step {
-    pub call: Call,
-    pub answer: Answer,
+pub enum Step {
+    Allocate((usize, u8), Result<usize, Refusal>),
+    Deallocate((usize, usize, u8), Result<(), Refusal>),
+    Grow((usize, usize, u8), (usize, u8), Result<usize, Refusal>),
 }
 
 pub fn layout(size: usize, exponent: u8) -> Result<Layout, Refusal> {
@@ -38,34 +26,17 @@ pub fn block(place: usize, size: usize, exponent: u8) -> Result<Block, Refusal> 
     Ok(Block { place, size, align })
 }
 
-fn placed(res: Result<usize, Fault>) -> Answer {
-    match res {
-        Ok(place) => Answer::At(place),
-        Err(fault) => Answer::Refused(fault.refusal().number()),
+// Holds a call's answer to the one that is written.
+fn check<T: PartialEq + Debug + Drop>(
+    i: usize,
+    answer: Result<T, Fault>,
+    written: Result<T, Refusal>,
+) -> Result<(), Fail> {
+    let answer = answer.map_err(Fault::refusal);
+    if answer != written {
+        return Err(Fail::new(format_args!("step {i}: {answer:?}, and not {written:?}")));
     }
-}
-
-fn done(res: Result<(), Fault>) -> Answer {
-    match res {
-        Ok(()) => Answer::Done,
-        Err(fault) => Answer::Refused(fault.refusal().number()),
-    }
-}
-
-fn ask<B: Allocator>(allocator: &mut B, region: &mut [u8], call: Call) -> Result<Answer, Refusal> {
-    match call {
-        Call::Allocate(size, exponent) => Ok(placed(allocator.allocate(
-            region,
-            layout(size, exponent)?,
-        ))),
-        Call::Deallocate(place, size, exponent) => {
-            Ok(done(allocator.deallocate(region, block(place, size, exponent)?)))
-        }
-        Call::Grow(place, size, exponent, new_size, new_exponent) => {
-            let old = block(place, size, exponent)?;
-            Ok(placed(allocator.grow(region, old, layout(new_size, new_exponent)?)))
-        }
-    }
+    Ok(())
 }
 
 // Makes the calls one after another, and holds each answer to the one that is written.
@@ -75,9 +46,20 @@ pub fn replay<B: Allocator>(
     steps: &[Step],
 ) -> Result<(), Fail> {
     for (i, step) in steps.iter().enumerate() {
-        let got = ask(allocator, region, step.call)?;
-        if got != step.answer {
-            return Err(Fail::new(format_args!("step {i}: {got:?}, and not {:?}", step.answer)));
+        match *step {
+            Step::Allocate((size, exponent), written) => {
+                let layout = layout(size, exponent)?;
+                check(i, allocator.allocate(region, layout), written)?;
+            }
+            Step::Deallocate((place, size, exponent), written) => {
+                let block = block(place, size, exponent)?;
+                check(i, allocator.deallocate(region, block), written)?;
+            }
+            Step::Grow((place, size, exponent), (new_size, new_exponent), written) => {
+                let block = block(place, size, exponent)?;
+                let layout = layout(new_size, new_exponent)?;
+                check(i, allocator.grow(region, block, layout), written)?;
+            }
         }
     }
     Ok(())
@@ -86,10 +68,20 @@ pub fn replay<B: Allocator>(
 // Takes all 64 lines of a table, by blocks of 8 bytes that stand one behind another.
 pub fn fill<B: Allocator>(allocator: &mut B, region: &[u8]) -> Result<(), Fail> {
     for i in 0..64usize {
-        let place = allocator.allocate(region, layout(8, 0)?)?;
-        if place != 8 * i {
-            return Err(Fail::new(format_args!("block {i} is at {place}")));
-        }
+        check(i, allocator.allocate(region, layout(8, 0)?), Ok(8 * i))?;
     }
     Ok(())
+}
+
+#[cfg(test)]
+mod tests {
+    use super::*;
+
+    // The numbers that stand for the refusals of the cases.
+    #[test]
+    fn numbers(rt: HostRuntime) {
+        assert_eq!(rt; Refusal::RegionDiffers.number(), 1);
+        assert_eq!(rt; Refusal::NotGranted.number(), 9);
+        assert_eq!(rt; Refusal::NoSuchBlock.number(), 18);
+    }
 }

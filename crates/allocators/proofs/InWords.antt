@@ -6,10 +6,8 @@ use Rattle.allocation.specs.declared.block.Request.{Request}
 use Rattle.allocation.specs.Faults.{block_at, is_among}
 use Rattle.allocation.specs.Meaning.{Among, end_of}
 use Rattle.allocation.proofs.Tables.{among_true, among_from, none_among}
-use Rattle.allocators.specs.declared.arena.Placing.{Placing}
-use Rattle.allocators.specs.declared.arena.Placing.TheVariants.{Lowest, AboveHighest}
 use Rattle.allocators.specs.Fitting.{lies, fits, some_below, grants_from, highest_end}
-use Rattle.allocators.specs.Placings.{may_grow, stays, start_of, meaning_by}
+use Rattle.allocators.specs.Placings.{Placing, lowest, above_highest, may_grow, stays, meaning_by}
 use Rattle.allocators.specs.Rules.{Granting, GeneralRule, Stays, ShelfRule}
 use Rattle.allocators.specs.Blocks.{lies_true, lies_from, fits_true, fits_from}
 use Rattle.allocators.specs.Grants.{granted, granted_only, highest_among}
@@ -29,9 +27,9 @@ least_below t (suc k) h =
     some_at zero q l e = absurd (omega arith)
     some_at (suc m) q l e = elim (cases_eq q m) [ inl same ↦ or_left _ _ (rw same at e) | inr other ↦ or_right (t m) _ (some_at m q (omega arith) e) ]
 
-granting : (k : Placing) (base n : ℕ) (live : List Block) (r : Request) → Granting (meaning_by k base n live) (start_of k live) r
+granting : (k : Placing) (base n : ℕ) (live : List Block) (r : Request) → Granting (meaning_by k base n live) (k.start live) r
 granting k base n live r =
-    let start = start_of k live in
+    let start = k.start live in
     let test : ℕ → Bool = λ p. leb start p && fits base n live r p in
     record {
       granted = (granted_only base n live start r, λ h. granted base n live start r h.1.0 h.0 h.1.1 h.1.2);
@@ -59,7 +57,7 @@ may_from live b r t a le h = and_from _ _ (and_from _ _ (among_from b live a) (l
 
 pub general_holds : GeneralRule
 general_holds base n live b r = (
-  granting Lowest base n live r,
+  granting lowest base n live r,
   (may_parts live b r (grants_from base n live 0 r), λ h. may_from live b r (grants_from base n live 0 r) h.0 h.1 h.2),
 )
 
@@ -92,7 +90,7 @@ shelf_holds base n live b r =
         reached = reached_end live;
         bottom = λ none. ap highest_end (none_among live none);
       },
-      granting AboveHighest base n live r,
+      granting above_highest base n live r,
       (
         λ h.
             let p = may_parts live b r (stays base n live b r || grants) h in

@@ -1,3 +1,2 @@
-mod Edits
 mod InWords
 pub mod Own

@@ -1,18 +1,19 @@
 -- The tests on blocks as facts, and lists of blocks that share no byte.
-use Rattle.std.specs.Prelude.{◌≡◌, ℕ, zero, suc, ◌+◌, ◌%◌, ◌<◌, ◌≤◌, Bool, true, false, cond, ◌&&◌, ◌⊎◌, ◌↔◌, List, [], ◌∷◌, ◌++◌, length, get_or, take, ◌==◌, ◌≢◌, nat_le, nat_lt, slice_index_or}
+use Rattle.std.specs.Prelude.{◌≡◌, ℕ, zero, suc, ◌+◌, ◌%◌, ◌<◌, ◌≤◌, Bool, true, false, cond, ◌&&◌, ◌⊎◌, ◌↔◌, List, [], ◌∷◌, ◌++◌, length, get_or, ◌==◌, ◌≢◌, nat_le, nat_lt, slice_index_or, Some, None}
 use Rattle.std.proofs.Math.Logic.{inl, inr, ⊎_elim}
 use Rattle.std.proofs.Math.Path.{refl, sym, subst}
 use Rattle.std.proofs.Common.{ap, ◌∙◌, arith}
-use Rattle.std.specs.List.{remove}
-use Rattle.std.proofs.lemmas.Bool.{and_parts, and_from, or_cases, or_left, or_right, or_from, or_parts, leb-true, leb-false, ltb-true, eqb-true, le-leb, lt-ltb, eq-eqb, cases_Bool, cond_both, both_ways}
+use Rattle.std.specs.List.{remove, position, position_or_len}
+use Rattle.std.proofs.lemmas.List.Quantifiers.{position-Some}
+use Rattle.std.proofs.lemmas.Bool.{and_parts, and_from, or_cases, or_left, or_right, or_parts, leb-true, leb-false, ltb-true, eqb-true, le-leb, lt-ltb, eq-eqb, cases_Bool, cases_lt, cond_both, both_ways}
 use Rattle.allocation.specs.declared.block.Block.{Block}
 use Rattle.allocation.specs.declared.block.Request.{Request}
-use Rattle.allocation.specs.Faults.{block_at, same_block, is_among, any_block}
+use Rattle.allocation.specs.Faults.{block_at, same_block, is_among}
 use Rattle.allocation.specs.Meaning.{Among, Apart, end_of}
 use Rattle.allocation.proofs.Tables.{same_block_refl, same_block_is, among_true}
 use Rattle.allocators.specs.Fitting.{clear, lies, clear_of, sound, fits, Fits}
 use Rattle.allocators.specs.Placings.{may_grow}
-use Rattle.allocators.specs.Tables.{without, Found, no_block}
+use Rattle.allocators.specs.Tables.{without, no_block}
 
 pub record Lies (base n : ℕ) (b : Block) : Type 0 where
   pub some : 1 ≤ b.size
@@ -161,32 +162,29 @@ not_clear_place b c h =
     let p = or_parts (nat_le (end_of b) c.place) (nat_le (end_of c) b.place) h in
     (leb-false _ _ p.0, leb-false _ _ p.1)
 
--- ---- a block found in a table
-pub is_among_more : (xs : List Block) (c b : Block) → is_among b xs ≡ false → same_block c b ≡ false → is_among b (xs ++ c ∷ []) ≡ false
-is_among_more [] c b h k = or_from _ _ k refl
-is_among_more (x ∷ xs) c b h k = let p = or_parts (same_block x b) (is_among b xs) h in or_from _ _ p.0 (is_among_more xs c b p.1 k)
+-- ---- taking a block out of a list
+without_at : (xs : List Block) (i : ℕ) (b : Block) → i < length xs → same_block (get_or xs i no_block) b ≡ true → ((k : ℕ) → k < i → same_block (get_or xs k no_block) b ≡ false) → without xs b ≡ remove xs i
+without_at [] i b l here before = absurd (omega arith)
+without_at (x ∷ xs) zero b l here before = rw here
+without_at (x ∷ xs) (suc i) b l here before =
+    rw (before 0 (omega arith)) (ap (λ ys. x ∷ ys) (without_at xs i b (omega arith) here (λ k h. before (suc k) (omega arith))))
 
-is_among_at : (xs : List Block) (i : ℕ) (b : Block) → i < length xs → same_block (slice_index_or xs i no_block) b ≡ true → is_among b xs ≡ true
-is_among_at [] i b l h = absurd (omega arith)
-is_among_at (x ∷ xs) zero b l h = or_left _ _ h
-is_among_at (x ∷ xs) (suc i) b l h = or_right _ _ (is_among_at xs i b (omega arith) h)
-
-without_at : (xs : List Block) (i : ℕ) (b : Block) → i < length xs → is_among b (take i xs) ≡ false → same_block (slice_index_or xs i no_block) b ≡ true → without xs b ≡ remove xs i
-without_at [] i b l before h = absurd (omega arith)
-without_at (x ∷ xs) zero b l before h = rw h
-without_at (x ∷ xs) (suc i) b l before h =
-    let p = or_parts (same_block x b) (is_among b (take i xs)) before in
-    rw p.0 (ap (λ ys. x ∷ ys) (without_at xs i b (omega arith) p.1 h))
-
-pub found_among : (xs : List Block) (i : ℕ) (b : Block) → Found xs i b → is_among b xs ≡ true
-found_among xs i b f = is_among_at xs i b f.0 f.1
-
-pub found_without : (xs : List Block) (i : ℕ) (b : Block) → Found xs i b → without xs b ≡ remove xs i
-found_without xs i b f = without_at xs i b f.0 f.2 f.1
-
-pub without_none : (xs : List Block) (b : Block) → is_among b xs ≡ false → without xs b ≡ xs
+without_none : (xs : List Block) (b : Block) → length xs ≤ position_or_len (λ c. same_block c b) xs → without xs b ≡ xs
 without_none [] b h = refl
-without_none (x ∷ xs) b h = let p = or_parts (same_block x b) (is_among b xs) h in rw p.0 (ap (λ ys. x ∷ ys) (without_none xs b p.1))
+without_none (x ∷ xs) b h =
+    elim (cases_Bool (same_block x b)) [
+      | inl same ↦ absurd (let e = rw same at h in omega arith)
+      | inr other ↦ let e = rw other at h in rw other (ap (λ ys. x ∷ ys) (without_none xs b (omega arith)))
+    ]
+
+-- a block that was looked for by its first index
+pub without_found : (xs : List Block) (b : Block) (i : ℕ) → position (λ c. same_block c b) xs ≡ Some i → without xs b ≡ remove xs i
+without_found xs b i h = let p = position-Some (λ c. same_block c b) xs i no_block h in without_at xs i b p.0 p.1 p.2
+
+pub without_missing : (xs : List Block) (b : Block) → position (λ c. same_block c b) xs ≡ None → without xs b ≡ xs
+without_missing xs b h =
+    let i = position_or_len (λ c. same_block c b) xs in
+    elim (cases_lt i (length xs)) [ inl below ↦ let e = rw (lt-ltb i (length xs) below) at h in cc | inr above ↦ without_none xs b above ]
 
 pub without_length : (xs : List Block) (b : Block) → is_among b xs ≡ true → length (without xs b) + 1 ≡ length xs
 without_length [] b h = absurd (both_ways false refl h)
@@ -198,8 +196,3 @@ without_length (x ∷ xs) b h =
           let ih = without_length xs b rest in
           rw other (omega arith)
     ]
-
-pub any_block_held : (count : ℕ) (lines : List Block) → count ≤ length lines → any_block (take count lines) ≡ nat_lt 0 count
-any_block_held zero lines h = refl
-any_block_held (suc k) [] h = absurd (omega arith)
-any_block_held (suc k) (x ∷ xs) h = sym (lt-ltb 0 (suc k) (omega arith))

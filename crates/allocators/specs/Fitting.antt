@@ -1,5 +1,6 @@
 -- Where a block fits between the live blocks of a region.
 use Rattle.std.specs.Prelude.{◌≡◌, ℕ, zero, suc, ◌+◌, ◌%◌, ◌≤◌, max, Bool, true, false, ◌&&◌, ◌||◌, List, [], ◌∷◌, length, ◌==◌, nat_le, nat_lt}
+use Rattle.std.specs.List.{list_all}
 use Rattle.allocation.specs.declared.block.Block.{Block}
 use Rattle.allocation.specs.declared.block.Request.{Request}
 use Rattle.allocation.specs.Faults.{block_at}
@@ -14,8 +15,7 @@ abbrev pub lies : ℕ → ℕ → Block → Bool
 lies base n b = (nat_lt 0 b.size && nat_le (end_of b) n) && (base + b.place) % b.align == 0
 
 abbrev pub clear_of : Block → List Block → Bool
-clear_of b [] = true
-clear_of b (c ∷ cs) = clear b c && clear_of b cs
+clear_of b = list_all (λ c. clear b c)
 
 -- does each block lie in the region, and do no two share a byte?
 abbrev pub sound : ℕ → ℕ → List Block → Bool

@@ -1,5 +1,5 @@
 -- When a request is granted, and at which place.
-use Rattle.std.specs.Prelude.{◌≡◌, ℕ, zero, suc, ◌+◌, ◌-◌, ◌%◌, ◌<◌, ◌≤◌, max, Bool, true, false, ◌&&◌, List, [], ◌∷◌, ◌++◌, length, Some, None, Option, MatchOption, nat_le, nat_lt, refl}
+use Rattle.std.specs.Prelude.{◌≡◌, ℕ, zero, suc, ◌+◌, ◌-◌, ◌%◌, ◌<◌, ◌≤◌, max, Bool, true, false, ◌&&◌, List, [], ◌∷◌, length, Some, None, Option, fold, MatchOption, nat_le, nat_lt, refl}
 use Rattle.std.proofs.Common.{inl, inr, subst, arith, lit<}
 use Rattle.std.proofs.lemmas.Bool.{and_from, and_left, and_right, and_parts, or_left, or_right, or_from, or_cases, ltb-true, lt-ltb, leb-true, le-leb, lt-leb, cases_eq, cases_lt, both_ways}
 use Rattle.allocation.specs.declared.block.Block.{Block}
@@ -56,12 +56,12 @@ module _ (base n : ℕ) (live : List Block) (start : ℕ) (r : Request) where
       )
 
   -- the same, with what the search was called on
-  pub grants_found : (o : Option ℕ) (live' : List Block) (start' : ℕ) (r' : Request) → live' ≡ live → start' ≡ start → r' ≡ r → length live < 64
-      → MatchOption o ((q : ℕ) → start' ≤ q → fits base n live' r' q ≡ false) (λ p. (start' ≤ p) × (fits base n live' r' p ≡ true) × ((q : ℕ) → start' ≤ q → q < p → fits base n live' r' q ≡ false))
+  pub grants_found : (o : Option ℕ) (start' : ℕ) (r' : Request) → start' ≡ start → r' ≡ r → length live < 64
+      → MatchOption o ((q : ℕ) → start' ≤ q → fits base n live r' q ≡ false) (λ p. (start' ≤ p) × (fits base n live r' p ≡ true) × ((q : ℕ) → start' ≤ q → q < p → fits base n live r' q ≡ false))
       → MatchOption o (grants_from base n live start r ≡ false) (λ p. (grants_from base n live start r ≡ true) × (length live < 64) × Lowest base n live start r p)
-  grants_found o live' start' r' l s e free h =
-      let Search : List Block → ℕ → Request → Type 0 = λ ls k x. MatchOption o ((q : ℕ) → k ≤ q → fits base n ls x q ≡ false) (λ p. (k ≤ p) × (fits base n ls x p ≡ true) × ((q : ℕ) → k ≤ q → q < p → fits base n ls x q ≡ false)) in
-      grants_cases o free (subst (λ x. Search live start x) e (subst (λ k. Search live k r') s (subst (λ ls. Search ls start' r') l h)))
+  grants_found o start' r' s e free h =
+      let Search : ℕ → Request → Type 0 = λ k x. MatchOption o ((q : ℕ) → k ≤ q → fits base n live x q ≡ false) (λ p. (k ≤ p) × (fits base n live x p ≡ true) × ((q : ℕ) → k ≤ q → q < p → fits base n live x q ≡ false)) in
+      grants_cases o free (subst (λ x. Search start x) e (subst (λ k. Search k r') s h))
 
 -- a place below the alignment is a multiple of it
 first_aligned : (base a : ℕ) → 0 < a → (p : ℕ) × (p < a) × ((base + p) % a ≡ 0)
@@ -78,9 +78,17 @@ empty_grants base n r pos some le =
     granted base n [] 0 r p.0 (lit< tt) (omega arith) (record { filled = some; within = omega arith; aligned = p.2; apart = λ c a. absurd a })
 
 -- ---- the end of the highest block
-pub highest_push : (xs : List Block) (b : Block) → highest_end (xs ++ b ∷ []) ≡ max (highest_end xs) (end_of b)
-highest_push [] b = omega arith
-highest_push (x ∷ xs) b = let h = highest_push xs b in omega arith
+pub fold_highest : (a : ℕ) (xs : List Block) → fold (λ e b. max e (end_of b)) a xs ≡ max a (highest_end xs)
+fold_highest a [] = omega arith
+fold_highest a (x ∷ xs) = let h = fold_highest (max a (end_of x)) xs in omega arith
+
+pub highest_within : (n : ℕ) (xs : List Block) → ((b : Block) → Among b xs → end_of b ≤ n) → highest_end xs ≤ n
+unfolding Among
+highest_within n [] h = omega arith
+highest_within n (x ∷ xs) h =
+    let here = h x (inl refl) in
+    let rest = highest_within n xs (λ b a. h b (inr a)) in
+    omega arith
 
 pub highest_among : (xs : List Block) (b : Block) → Among b xs → end_of b ≤ highest_end xs
 unfolding Among

@@ -1,28 +1,24 @@
 // SPDX-License-Identifier: Apache-2.0
-// What General and Shelf have in common: a region's address and length, and its live blocks.
+// The region that an allocator serves: its address and length, and the live blocks in it.
 ghost use Rattle.std.specs.Prelude.{◌≡◌, ◌^◌, ◌≤◌, true};
 ghost use Rattle.allocators.specs.Fitting.{sound};
-ghost use Rattle.allocators.specs.Tables.{held};
 
-use crate::table::Table;
+use allocation::block::Block;
+use arrayvec::ArrayVec;
 
 pub mod ops;
 
-// Where a new block may be placed: at the lowest place that fits, or only at or above the end of the highest block.
-#[derive(Clone, Copy)]
-pub(crate) enum Placing {
-    Lowest,
-    AboveHighest,
-}
+// How many blocks may be live at once.
+pub(crate) const LINES: usize = 64;
 
-// The live blocks of a region.
+// The live blocks of a region, in the order in which they came.
 #[derive(Drop)]
-pub(crate) struct Arena {
+pub struct Arena {
     pub(crate) base: usize,
     pub(crate) extent: usize,
-    pub(crate) table: Table,
+    pub(crate) live: ArrayVec<Block, LINES>,
     ghost low: { base ≤ 2 ^ 47 },
     ghost long: { 1024 ≤ extent },
     ghost short: { extent ≤ 2 ^ 32 },
-    ghost kept: { sound base extent (held table) ≡ true },
+    ghost kept: { sound base extent live.items ≡ true },
 }

@@ -5,7 +5,8 @@
 
 pub mod arena;
 pub mod general;
+pub mod placement;
 pub mod places;
 pub mod shelf;
-pub mod table;
+pub mod table_allocator;
 pub mod theorems;

@@ -1,6 +1,7 @@
 // SPDX-License-Identifier: Apache-2.0
 // The search for a place between the live blocks of a region.
 ghost use Rattle.std.specs.Prelude.{◌≡◌, ℕ, ◌+◌, ◌%◌, ◌^◌, ◌<◌, ◌≤◌, true, false, MatchOption};
+ghost use Rattle.std.specs.List.{All};
 ghost use Rattle.allocation.specs.Alignments.{greatest_exponent};
 ghost use Rattle.allocators.specs.Fitting.{clear, fits, sound, highest_end};
 
@@ -17,7 +18,7 @@ pub(crate) fn align_up(base: usize, from: usize, align: usize) -> usize
     ensures aligned { (base + result) % align ≡ 0 }
     ensures first { (q : ℕ) → from ≤ q → (base + q) % align ≡ 0 → result ≤ q }
 {
-    from + (align - (base + from) % align) % align
+    (base + from).next_multiple_of(align) - base
 }
 
 // Whether two blocks share no byte.
@@ -30,6 +31,7 @@ pub(crate) fn apart(one: Block, other: Block) -> bool
 }
 
 // The lowest place at or above `start` where a block of the request fits between the live ones.
+// A candidate that a live block is in the way of gives way to the next one behind that block.
 pub(crate) fn lowest_place(
     base: usize,
     extent: usize,
@@ -73,14 +75,10 @@ pub(crate) fn lowest_place(
 }
 
 // The end of the highest block, or 0.
-pub(crate) fn highest(base: usize, extent: usize, live: &[Block]) -> usize
-    requires { sound base extent live.now ≡ true }
-    ensures end { result ≡ highest_end live.now }
-    ensures within { result ≤ extent }
+pub(crate) fn highest(live: &[Block]) -> usize
+    requires { All (λ b. b.place + b.size < 2 ^ 64) live.now }
+    ensures { result ≡ highest_end live.now }
 {
-    let mut end: usize = 0;
-    for b in live {
-        end = end.max(b.place + b.size);
-    }
-    end
+    live.iter()
+        .fold(0, |end: usize, b| end.max(b.place + b.size))
 }

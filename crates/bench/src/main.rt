@@ -9,7 +9,7 @@ use anyhow::anyhow;
 use element::Element;
 use element::glass_line::GlassLine;
 use element::theorems::{columns_stand, patterns_are_bytes};
-use element::writing::write_all;
+use element::values::Values;
 use std::time::Instant;
 use std::{env, io};
 
@@ -24,7 +24,7 @@ fn write_time<K: Element>(rt: &HostRuntime, region: &mut [u8], values: &[K]) -> 
     requires { 64 + length values.now * K.Element.width ≤ length region.old }
 {
     let start = Instant::now(rt)?;
-    write_all(region, PLACE, values);
+    values.write(region, PLACE);
     Ok(start.elapsed(rt)?.as_nanos())
 }
 
@@ -90,10 +90,9 @@ fn time(rt: &HostRuntime) -> anyhow::Result<()> {
     }
     compare(rt, "u64", &mut region, &bytes[0..COUNT * 8], &longs)?;
     compare(rt, "glass line", &mut region, &bytes, &lines)?;
-    let mut sum = 0u64;
-    for byte in region.iter() {
-        sum = sum.wrapping_mul(31).wrapping_add(u64::from(*byte));
-    }
+    let sum = region.iter().fold(0u64, |sum, byte| {
+        sum.wrapping_mul(31).wrapping_add(u64::from(*byte))
+    });
     println!(rt; "checksum {sum}")?;
     Ok(())
 }
@@ -116,8 +115,8 @@ fn check(rt: &HostRuntime) -> anyhow::Result<()> {
     columns_stand::<GlassLine>();
     patterns_are_bytes(&lines[0]);
     let mut region = [77u8; 56];
-    write_all(&mut region, 4, &longs);
-    write_all(&mut region, 24, &lines);
+    longs.as_slice().write(&mut region, 4);
+    lines.as_slice().write(&mut region, 24);
     let expected = [
         77, 77, 77, 77, 8, 7, 6, 5, 4, 3, 2, 1, 9, 0, 0, 0, 0, 0, 0, 0, 77, 77, 77, 77, 1, 0, 0, 0,
         13, 12, 11, 10, 254, 255, 255, 255, 255, 255, 255, 255, 0, 1, 0, 0, 3, 0, 0, 0, 4, 0, 0, 0,

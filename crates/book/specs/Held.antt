@@ -1,11 +1,11 @@
 -- The lines that a book holds, oldest first.
-use Rattle.std.specs.Prelude.{◌≡◌, ℕ, ◌<◌, List, length, take, slice_index_or}
+use Rattle.std.specs.Prelude.{◌≡◌, ℕ, ◌<◌, List, length, slice_index_or}
 use Rattle.model.specs.declared.line.Line.{Line}
 use Rattle.model.specs.Book.{blank}
 use Rattle.book.specs.declared.book.Book.{Book}
 
 abbrev pub lines_of : Book → List Line
-lines_of b = take b.count b.lines
+lines_of b = b.lines.items
 
 -- the line at a place
 abbrev pub line_at : List Line → ℕ → Line

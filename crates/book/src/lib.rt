@@ -1,7 +1,6 @@
 // SPDX-License-Identifier: Apache-2.0
-// Everything a store decides without touching memory: its book of live handles, lines and how they change, sizes, and each call's checks.
+// A store's book of live handles.
 // Beside src/buffer_mut.rs and src/buffer.rs of vortex-buffer 0.90.0.
 #![tactic(auto)]
 
 pub mod book;
-pub mod lines;

@@ -1,19 +1,19 @@
 -- From the laws of a kind and the type of alignments to what a run asks of its calls, and to what a kind's patterns say of its values.
-use Rattle.std.proofs.Common.{◌≡◌, ℕ, ◌≤◌, List, [], ◌∷◌, map, replicate, Some, None, Option, sym, refl, ap, ◌∙◌, subst, arith, pow_pos}
+use Rattle.std.proofs.Common.{◌≡◌, ℕ, Bool, List, [], ◌∷◌, map, replicate, Some, None, Option, refl, arith, pow_pos}
 use Rattle.allocation.specs.Alignments.{IsAlignment}
 use Rattle.allocation.specs.declared.alignment.Alignment.{Alignment}
+use Rattle.element.specs.Joined.{wide_map, wide_replicate}
+use Rattle.element.specs.declared.Element.{Ghosts as Element}
 use Rattle.element.specs.Patterns.{Bytes, OneToOne, Shaped}
-use Rattle.ledger.proofs.Appends.{even_one}
-use Rattle.ledger.proofs.Makes.{even_map, even_replicate}
+use Rattle.ledger.proofs.Makes.{even_all}
 use Rattle.model.specs.Calls.{preferred}
 use Rattle.model.specs.Kinds.{SoundKind}
 use Rattle.model.specs.Patterns.{Even}
 use Rattle.model.specs.Values.{Bytes as AllBytes, Coding, PartsAgree}
 use Rattle.model.specs.declared.line.Handle.{Handle}
-use Rattle.model.specs.declared.line.Kind.{Kind}
 use Rattle.model.proofs.Values.{values_law}
 use Rattle.buffer.specs.Handles.{bytes_if, bytes_of, kind}
-use Rattle.buffer.specs.Typed.{TypedBytes, TypedCalls, TypedLaw, TypedMakings, TypedSharedMakings}
+use Rattle.buffer.specs.Typed.{TypedBytes, TypedCalls, TypedLaw, TypedMakings, TypedMutableMakings}
 
 -- the alignments that calls name
 fair : (a : Alignment) → IsAlignment (bytes_of a)
@@ -30,61 +30,55 @@ bytes : (bs : List ℕ) → AllBytes bs → Bytes bs
 bytes [] a = tt
 bytes (b ∷ bs) a = (a.0, bytes bs a.1)
 
-module _ {K : Type 0} (width align : ℕ) (pattern : K → List ℕ) (shaped : Shaped width align) (faithful : OneToOne width pattern) where
-  sound : SoundKind (kind width align)
+module _ {K : Type 0} (e : Element K) (shaped : Shaped e.width e.align) (faithful : OneToOne e.width e.pattern) where
+  sound : SoundKind (kind e)
   sound = record { width = shaped.wide; align = (shaped.grain.0, omega (arith, shaped.grain.1), shaped.grain.2); within = shaped.within }
 
-  even : (vs : List K) → Even width (map pattern vs)
-  even vs = even_map pattern width vs faithful.long
+  even : (vs : List K) → Even e.width (map e.pattern vs)
+  even vs = even_all e.width (map e.pattern vs) (wide_map e.width e.pattern faithful.long vs)
 
-  evens : (n : ℕ) (v : K) → Even width (replicate n (pattern v))
-  evens n v = even_replicate width n (pattern v) (faithful.long v)
+  evens : (n : ℕ) (v : K) → Even e.width (replicate n (e.pattern v))
+  evens n v = even_all e.width (replicate n (e.pattern v)) (wide_replicate e.width e.pattern faithful.long n v)
 
-  makings : TypedMakings width align pattern
-  makings = record {
+  makings : (mutable : Bool) → TypedMakings e mutable
+  makings mutable = record {
+    zeroed = λ n. (sound, sound.align, fair_default);
+    full = λ v n. (sound, sound.align, fair_default, evens n v);
+    copy_from = λ vs. (sound, sound.align, fair_default, even vs);
+  }
+
+  mutable_makings : TypedMutableMakings e
+  mutable_makings = record {
     with_capacity = λ n. (sound, sound.align, fair_default);
     with_capacity_aligned = λ n a. (sound, fair a, fair_default);
     with_capacity_preferred = λ n a p. (sound, fair a, fair_if p);
-    zeroed = λ n. (sound, sound.align, fair_default);
     zeroed_aligned = λ n a. (sound, fair a, fair_default);
     zeroed_preferred = λ n a p. (sound, fair a, fair_if p);
     empty = λ a. (sound, fair a, fair_default);
-    full = λ v n. (sound, sound.align, fair_default, evens n v);
-    copy_from = λ vs. (sound, sound.align, fair_default, even vs);
     copy_from_aligned = λ vs a. (sound, fair a, fair_default, even vs);
     copy_from_preferred = λ vs a p. (sound, fair a, fair_if p, even vs);
   }
 
-  shared_makings : TypedSharedMakings width align pattern
-  shared_makings = record {
-    copy_from = λ vs. (sound, sound.align, fair_default, even vs);
-    zeroed = λ n. (sound, sound.align, fair_default);
-    full = λ v n. (sound, sound.align, fair_default, evens n v);
-    empty = λ a. (sound, fair a);
+  calls : (h : Handle) → h.kind ≡ kind e → TypedCalls e h
+  calls h same = record {
+    push = λ v. rw same (evens 1 v);
+    push_n = λ v n. rw same (evens n v);
+    extend = λ vs. rw same (even vs);
+    set = λ i v. rw same (faithful.long v);
+    aligned_mutable = λ a. fair a;
+    aligned_shared = λ a. fair a;
+    ensure_aligned = λ a. fair a;
+    slice = λ first last a. fair a;
   }
 
-  calls : (h : Handle) → h.kind ≡ kind width align → TypedCalls width align pattern h
-  calls h e =
-      let w : width ≡ h.kind.width = sym (ap (λ (k : Kind). k.width) e) in
-      record {
-        push = λ v. even_one h.kind.width (pattern v) (faithful.long v ∙ w);
-        push_n = λ v n. subst (λ z. Even z (replicate n (pattern v))) w (evens n v);
-        extend = λ vs. subst (λ z. Even z (map pattern vs)) w (even vs);
-        set = λ i v. faithful.long v ∙ w;
-        aligned_mutable = λ a. fair a;
-        aligned_shared = λ a. fair a;
-        ensure_aligned = λ a. fair a;
-        slice = λ first last a. fair a;
-      }
-
-  from_bytes : (h : Handle) → TypedBytes width align pattern h
+  from_bytes : (h : Handle) → TypedBytes e h
   from_bytes h = record { plain = (sound, sound.align); aligned = λ a. (sound, fair a) }
 
-  pub typed_law : TypedLaw width align pattern
-  typed_law = record { makings = makings; shared_makings = shared_makings; calls = calls; bytes = from_bytes }
+  pub typed_law : TypedLaw e
+  typed_law = record { makings = makings; mutable_makings = mutable_makings; shared_makings = record { empty = λ a. (sound, fair a) }; calls = calls; bytes = from_bytes }
 
-  coding : Coding width pattern
-  coding = record { long = faithful.long; one = faithful.one; every = λ bs e a. faithful.every bs e (bytes bs a) }
+  coding : Coding e.width e.pattern
+  coding = record { long = faithful.long; one = faithful.one; every = λ bs long a. faithful.every bs long (bytes bs a) }
 
-  pub parts_agree : PartsAgree width pattern
-  parts_agree = (values_law pattern width (subst (λ n. 1 ≤ n) (sym shaped.wide.2) (pow_pos shaped.wide.0)) coding).3
+  pub parts_agree : PartsAgree e.width e.pattern
+  parts_agree = (values_law e.pattern e.width (rw shaped.wide.2 (pow_pos shaped.wide.0)) coding).3

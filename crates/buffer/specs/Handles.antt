@@ -1,14 +1,12 @@
 -- Typed handles as handles of the definitions, and kinds and alignments as their numbers.
-use Rattle.std.specs.Prelude.{ℕ, ◌^◌, true, false, Some, None, Option}
+use Rattle.std.specs.Prelude.{ℕ, ◌^◌, Bool, true, false, Some, None, Option}
 use Rattle.allocation.specs.declared.alignment.Alignment.{Alignment}
+use Rattle.element.specs.declared.Element.{Ghosts as Element}
 use Rattle.model.specs.declared.line.Handle.{Handle}
 use Rattle.model.specs.declared.line.Kind.{Kind}
-use Rattle.buffer.specs.declared.buffer.Buffer.{Buffer}
-use Rattle.buffer.specs.declared.buffer_mut.BufferMut.{BufferMut}
-
--- a kind, by its width and alignment
-abbrev pub kind : ℕ → ℕ → Kind
-kind width align = record { width = width; align = align }
+use Rattle.buffer.specs.declared.state.Mutable.{Mutable}
+use Rattle.buffer.specs.declared.state.Shared.{Shared}
+use Rattle.buffer.specs.declared.typed_handle.TypedHandle.{TypedHandle}
 
 -- an alignment in bytes
 abbrev pub bytes_of : Alignment → ℕ
@@ -19,19 +17,19 @@ abbrev pub bytes_if : Option Alignment → Option ℕ
 bytes_if None = None
 bytes_if (Some a) = Some (bytes_of a)
 
+-- a typed handle, mutable or shared, on elements of a kind, as the book knows it
+abbrev pub handle : {S K : Type 0} → Bool → Kind → TypedHandle S K → Handle
+handle mutable k h = record { store = h.store; serial = h.serial; mutable = mutable; kind = k }
+
 module _ {K : Type 0} where
-  -- a mutable handle of a kind
-  abbrev pub mutable_handle : Kind → BufferMut K → Handle
-  mutable_handle k h = record { store = h.store; serial = h.serial; mutable = true; kind = k }
+  -- the kind of the elements of a type, by its width and alignment
+  abbrev pub kind : Element K → Kind
+  kind e = record { width = e.width; align = e.align }
 
-  -- a shared handle of a kind
-  abbrev pub shared_handle : Kind → Buffer K → Handle
-  shared_handle k h = record { store = h.store; serial = h.serial; mutable = false; kind = k }
+  -- a mutable handle on them
+  abbrev pub mutable_handle : Element K → TypedHandle Mutable K → Handle
+  mutable_handle e h = handle true (kind e) h
 
-  -- the store and the serial that a handle bears
-  abbrev pub mutable_name : BufferMut K → ℕ × ℕ
-  mutable_name h = (h.store, h.serial)
-
-  -- of a shared one
-  abbrev pub shared_name : Buffer K → ℕ × ℕ
-  shared_name h = (h.store, h.serial)
+  -- a shared handle on them
+  abbrev pub shared_handle : Element K → TypedHandle Shared K → Handle
+  shared_handle e h = handle false (kind e) h

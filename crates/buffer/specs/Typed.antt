@@ -1,53 +1,55 @@
 -- Every public call of a kind is one that a run may make: its kind is sound, its alignments are alignments, its patterns have the kind's width.
-use Rattle.std.specs.Prelude.{◌≡◌, ℕ, List, map, Option}
+use Rattle.std.specs.Prelude.{◌≡◌, ℕ, Bool, List, map, replicate, Option}
 use Rattle.allocation.specs.declared.alignment.Alignment.{Alignment}
-use Rattle.model.specs.Calls.{aligned, aligned_mut, copy_from_aligned_in, copy_from_in, copy_from_preferred_aligned_in, empty_aligned, empty_aligned_in, ensure_aligned, extend_from_slice, from_byte_buffer, from_byte_buffer_aligned, full_in, push, push_n, set, shared_copy_from_in, shared_full_in, shared_zeroed_in, slice_with_alignment, with_capacity_aligned_in, with_capacity_in, with_capacity_preferred_aligned_in, zeroed_aligned_in, zeroed_in, zeroed_preferred_aligned_in}
+use Rattle.element.specs.declared.Element.{Ghosts as Element}
+use Rattle.model.specs.Calls.{CopyFrom, Zeroed, aligned, aligned_mut, copy_from_aligned_in, copy_from_preferred_aligned_in, empty_aligned, empty_aligned_in, ensure_aligned, extend_from_slice, from_byte_buffer, from_byte_buffer_aligned, preferred_alignment, push, push_n, set, slice_with_alignment, with_capacity_aligned_in, with_capacity_in, with_capacity_preferred_aligned_in, zeroed_aligned_in, zeroed_preferred_aligned_in}
 use Rattle.model.specs.Runs.{Sound}
-use Rattle.model.specs.declared.line.Bound.{Bound}
+use Rattle.std.specs.declared.ops.Bound.{Bound}
 use Rattle.model.specs.declared.line.Handle.{Handle}
 use Rattle.buffer.specs.Handles.{bytes_if, bytes_of, kind}
 
-module _ {K : Type 0} (width align : ℕ) (pattern : K → List ℕ) where
-  -- the makings of a mutable handle
-  pub record TypedMakings : Type 0 where
-    pub with_capacity : (n : ℕ) → Sound (with_capacity_in (kind width align) n)
-    pub with_capacity_aligned : (n : ℕ) (a : Alignment) → Sound (with_capacity_aligned_in (kind width align) n (bytes_of a))
-    pub with_capacity_preferred : (n : ℕ) (a : Alignment) (p : Option Alignment) → Sound (with_capacity_preferred_aligned_in (kind width align) n (bytes_of a) (bytes_if p))
-    pub zeroed : (n : ℕ) → Sound (zeroed_in (kind width align) n)
-    pub zeroed_aligned : (n : ℕ) (a : Alignment) → Sound (zeroed_aligned_in (kind width align) n (bytes_of a))
-    pub zeroed_preferred : (n : ℕ) (a : Alignment) (p : Option Alignment) → Sound (zeroed_preferred_aligned_in (kind width align) n (bytes_of a) (bytes_if p))
-    pub empty : (a : Alignment) → Sound (empty_aligned_in (kind width align) (bytes_of a))
-    pub full : (v : K) (n : ℕ) → Sound (full_in (kind width align) (pattern v) n)
-    pub copy_from : (vs : List K) → Sound (copy_from_in (kind width align) (map pattern vs))
-    pub copy_from_aligned : (vs : List K) (a : Alignment) → Sound (copy_from_aligned_in (kind width align) (map pattern vs) (bytes_of a))
-    pub copy_from_preferred : (vs : List K) (a : Alignment) (p : Option Alignment) → Sound (copy_from_preferred_aligned_in (kind width align) (map pattern vs) (bytes_of a) (bytes_if p))
+module _ {K : Type 0} (e : Element K) where
+  -- the makings that both states have
+  pub record TypedMakings (mutable : Bool) : Type 0 where
+    pub zeroed : (n : ℕ) → Sound (Zeroed (kind e) mutable n e.align preferred_alignment)
+    pub full : (v : K) (n : ℕ) → Sound (CopyFrom (kind e) mutable (replicate n (e.pattern v)) e.align preferred_alignment)
+    pub copy_from : (vs : List K) → Sound (CopyFrom (kind e) mutable (map e.pattern vs) e.align preferred_alignment)
 
-  -- the makings of a shared handle
+  -- the makings of a mutable handle alone
+  pub record TypedMutableMakings : Type 0 where
+    pub with_capacity : (n : ℕ) → Sound (with_capacity_in (kind e) n)
+    pub with_capacity_aligned : (n : ℕ) (a : Alignment) → Sound (with_capacity_aligned_in (kind e) n (bytes_of a))
+    pub with_capacity_preferred : (n : ℕ) (a : Alignment) (p : Option Alignment) → Sound (with_capacity_preferred_aligned_in (kind e) n (bytes_of a) (bytes_if p))
+    pub zeroed_aligned : (n : ℕ) (a : Alignment) → Sound (zeroed_aligned_in (kind e) n (bytes_of a))
+    pub zeroed_preferred : (n : ℕ) (a : Alignment) (p : Option Alignment) → Sound (zeroed_preferred_aligned_in (kind e) n (bytes_of a) (bytes_if p))
+    pub empty : (a : Alignment) → Sound (empty_aligned_in (kind e) (bytes_of a))
+    pub copy_from_aligned : (vs : List K) (a : Alignment) → Sound (copy_from_aligned_in (kind e) (map e.pattern vs) (bytes_of a))
+    pub copy_from_preferred : (vs : List K) (a : Alignment) (p : Option Alignment) → Sound (copy_from_preferred_aligned_in (kind e) (map e.pattern vs) (bytes_of a) (bytes_if p))
+
+  -- the making of a shared handle alone
   pub record TypedSharedMakings : Type 0 where
-    pub copy_from : (vs : List K) → Sound (shared_copy_from_in (kind width align) (map pattern vs))
-    pub zeroed : (n : ℕ) → Sound (shared_zeroed_in (kind width align) n)
-    pub full : (v : K) (n : ℕ) → Sound (shared_full_in (kind width align) (pattern v) n)
-    pub empty : (a : Alignment) → Sound (empty_aligned (kind width align) (bytes_of a))
+    pub empty : (a : Alignment) → Sound (empty_aligned (kind e) (bytes_of a))
 
   -- the calls on a handle of the kind
   pub record TypedCalls (h : Handle) : Type 0 where
-    pub push : (v : K) → Sound (push h (pattern v))
-    pub push_n : (v : K) (n : ℕ) → Sound (push_n h (pattern v) n)
-    pub extend : (vs : List K) → Sound (extend_from_slice h (map pattern vs))
-    pub set : (i : ℕ) (v : K) → Sound (set h i (pattern v))
+    pub push : (v : K) → Sound (push h (e.pattern v))
+    pub push_n : (v : K) (n : ℕ) → Sound (push_n h (e.pattern v) n)
+    pub extend : (vs : List K) → Sound (extend_from_slice h (map e.pattern vs))
+    pub set : (i : ℕ) (v : K) → Sound (set h i (e.pattern v))
     pub aligned_mutable : (a : Alignment) → Sound (aligned_mut h (bytes_of a))
     pub aligned_shared : (a : Alignment) → Sound (aligned h (bytes_of a))
     pub ensure_aligned : (a : Alignment) → Sound (ensure_aligned h (bytes_of a))
-    pub slice : (first last : Bound) (a : Alignment) → Sound (slice_with_alignment h first last (bytes_of a))
+    pub slice : (first last : Bound ℕ) (a : Alignment) → Sound (slice_with_alignment h first last (bytes_of a))
 
   -- bytes that become elements of the kind
   pub record TypedBytes (h : Handle) : Type 0 where
-    pub plain : Sound (from_byte_buffer h (kind width align))
-    pub aligned : (a : Alignment) → Sound (from_byte_buffer_aligned h (kind width align) (bytes_of a))
+    pub plain : Sound (from_byte_buffer h (kind e))
+    pub aligned : (a : Alignment) → Sound (from_byte_buffer_aligned h (kind e) (bytes_of a))
 
   -- all of them; the calls that take neither kinds nor values nor alignments are sound as they are
   pub record TypedLaw : Type 0 where
-    pub makings : TypedMakings
+    pub makings : (mutable : Bool) → TypedMakings mutable
+    pub mutable_makings : TypedMutableMakings
     pub shared_makings : TypedSharedMakings
-    pub calls : (h : Handle) → h.kind ≡ kind width align → TypedCalls h
+    pub calls : (h : Handle) → h.kind ≡ kind e → TypedCalls h
     pub bytes : (h : Handle) → TypedBytes h

@@ -16,29 +16,29 @@ use region::equal;
 
 // Whether bytes are a whole number of elements of a kind.
 fn is_whole<K: Element>(bytes: &[u8]) -> bool
-    ensures { result ≡ (length bytes.now % K.Element.width == 0) }
+    ensures { result ≡ (length bytes.now % K.width == 0) }
 {
     bytes.len().is_multiple_of(K::width())
 }
 
 // What the types of a kind give every call, as a run has it.
 fn typed_law<K: Element>()
-    ensures { TypedLaw K.Element.width K.Element.align K.Element.pattern }
+    ensures { TypedLaw K.Element }
 {}
 
 // Parts that are shown of two lists of values of a kind are equal exactly when the lists are.
 fn values_law<K: Element>()
-    ensures { PartsAgree K.Element.width K.Element.pattern }
+    ensures { PartsAgree K.width K.pattern }
 {}
 
 // Whether two shown parts of one kind have equal bytes: refusal 15 where one is no whole number of elements.
 // The law over runs stands here too: in every run of calls on any stores, parts that are shown are equal exactly when the pedigrees of their handles
 // spell equal lists, of patterns and so of values, and all else that a run keeps. What the types give every public call of the kind is what a run asks.
 pub fn same<K: Element>(xs: &[u8], ys: &[u8]) -> Result<bool, Fault>
-    ensures answer { verdict result ≡ same_parts (kind K.Element.width K.Element.align) xs.now ys.now }
+    ensures answer { verdict result ≡ same_parts (kind K.Element) xs.now ys.now }
     ensures law { StoreLaw }
-    ensures values { PartsAgree K.Element.width K.Element.pattern }
-    ensures typed { TypedLaw K.Element.width K.Element.align K.Element.pattern }
+    ensures values { PartsAgree K.width K.pattern }
+    ensures typed { TypedLaw K.Element }
 {
     store_law_holds();
     values_law::<K>();

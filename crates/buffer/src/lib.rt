@@ -8,4 +8,6 @@ pub mod buffer_mut;
 pub mod comparing;
 pub mod kinds;
 pub mod refused;
+pub mod state;
 pub mod store;
+pub mod typed_handle;

@@ -2,23 +2,18 @@
 // A refused call that would have used up a handle gives it back.
 ghost use Rattle.std.specs.Prelude.{◌≡◌};
 
-use crate::buffer::Buffer;
-use crate::buffer_mut::BufferMut;
+use crate::typed_handle::TypedHandle;
 use allocation::fault::Fault;
-
-// Why a call was refused, and the handle that it would have turned into another.
-pub struct Refused<H> {
-    pub fault: Fault,
-    pub handle: H,
-}
+pub use ledger::refused::Refused;
 
 // Why a handle was not released, and the handle: a program tries again with it, or abandons it.
+// It is no `Refused`, which cannot be abandoned: what any other refused call gives back is still to be released.
 pub struct Unreleased<H> {
     pub fault: Fault,
     pub handle: H,
 }
 
-impl<K> Unreleased<BufferMut<K>> {
+impl<S, K> Unreleased<TypedHandle<S, K>> {
     // Gives up a handle that the store does not release; its line stays in the book of the store that made it.
     pub fn abandon(self) -> Fault
         ensures { result ≡ self.fault }
@@ -26,16 +21,5 @@ impl<K> Unreleased<BufferMut<K>> {
         let Unreleased { fault, handle } = self;
         handle.end();
         fault
-    }
-}
-
-impl<K> Unreleased<Buffer<K>> {
-    // The same for a shared handle.
-    pub fn abandon(self) -> Fault
-        ensures { result ≡ self.fault }
-    {
-        let Unreleased { fault: why, handle } = self;
-        handle.end();
-        why
     }
 }

@@ -10,9 +10,9 @@ ghost use Rattle.ledger.specs.Limits.{serves};
 ghost use Rattle.ledger.specs.View.{opened};
 ghost use Rattle.model.specs.Runs.{New};
 
+use crate::refused::Refused;
 use allocation::allocation::Allocator;
 use ledger::ledger::Ledger;
-use ledger::refused::Refused;
 use model::line::Line;
 
 pub struct Store<B: Allocator> {
@@ -22,11 +22,12 @@ pub struct Store<B: Allocator> {
 impl<B: Allocator> Store<B> {
     // A store without handles. An allocator with a live block, or with a region beyond the limits, comes back with refusal 1.
     pub fn new(allocator: B, number: u32) -> Result<Store<B>, Refused<B>>
-        ensures { MatchResult result
-            (λ s. (serves (B.Allocator.meaning allocator) ≡ true)
-            × ((bytes : List ℕ) → state B.Allocator.meaning s bytes ≡ opened number (B.Allocator.meaning allocator) bytes)
-            × ((bytes : List ℕ) → length bytes ≡ (B.Allocator.meaning allocator).extent → New (record { state = state B.Allocator.meaning s bytes; table = [] })))
-            (λ e. (serves (B.Allocator.meaning allocator) ≡ false) × (e.fault ≡ Alone RegionDiffers) × (e.returned ≡ allocator)) }
+        ensures { let m = B.meaning allocator in
+            MatchResult result
+            (λ s. (serves m ≡ true)
+            × ((bytes : List ℕ) → state B.Allocator s bytes ≡ opened number m bytes)
+            × ((bytes : List ℕ) → length bytes ≡ m.extent → New (record { state = state B.Allocator s bytes; table = [] })))
+            (λ e. (serves m ≡ false) × (e.fault ≡ Alone RegionDiffers) × (e.returned ≡ allocator)) }
     {
         let ledger = Ledger::new(allocator, number)?;
         Ok(Store { ledger })
@@ -41,21 +42,21 @@ impl<B: Allocator> Store<B> {
 
     // The lines of the live handles, oldest first.
     pub fn lines(&self) -> &[Line]
-        ensures { result.now ≡ lines_of self.now.ledger.book }
+        ensures { result.now ≡ lines_of self.now.ledger.register.book }
     {
         self.ledger.lines()
     }
 
     // The allocator, lent for questions.
     pub fn allocator(&self) -> &B
-        ensures { result.now ≡ self.now.ledger.allocator.allocator }
+        ensures { result.now ≡ self.now.ledger.allocator }
     {
         self.ledger.allocator()
     }
 
     // Whether no handle is live.
     pub fn is_idle(&self) -> bool
-        ensures { result ≡ (length (lines_of self.now.ledger.book) == 0) }
+        ensures { result ≡ (length (lines_of self.now.ledger.register.book) == 0) }
     {
         self.ledger.is_idle()
     }
@@ -63,13 +64,10 @@ impl<B: Allocator> Store<B> {
     // The allocator, where no handle is live; else the store comes back.
     pub fn into_allocator(self) -> Result<B, Store<B>>
         ensures { MatchResult result
-            (λ b. (lines_of self.ledger.book ≡ []) × (b ≡ self.ledger.allocator.allocator))
-            (λ s. (lines_of self.ledger.book ≢ []) × (s ≡ self)) }
+            (λ b. (lines_of self.ledger.register.book ≡ []) × (b ≡ self.ledger.allocator))
+            (λ s. (lines_of self.ledger.register.book ≢ []) × (s ≡ self)) }
     {
         let Store { ledger } = self;
-        match ledger.into_allocator() {
-            Ok(allocator) => Ok(allocator),
-            Err(ledger) => Err(Store { ledger }),
-        }
+        ledger.into_allocator().map_err(|ledger| Store { ledger })
     }
 }

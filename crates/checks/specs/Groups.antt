@@ -5,7 +5,7 @@ use Rattle.allocation.specs.declared.fault.Fault.TheVariants.{Alone}
 use Rattle.allocation.specs.declared.fault.Refusal.TheVariants.{BelowKindAlignment, Overflow, LayoutTooLarge, BoundOverflow, RangeReversed, RangeBeyondLength, OffsetUnaligned, StartUnaligned, PartialElement, IndexBeyondLength, BackingShared}
 use Rattle.allocation.specs.Meaning.{Meaning}
 use Rattle.model.specs.Checks.{Check, overflows, request_for, not_granted, wanted_request, room_granted, begin, finish, begin_overflows, finish_overflows, is_aligned}
-use Rattle.model.specs.declared.line.Bound.{Bound}
+use Rattle.std.specs.declared.ops.Bound.{Bound}
 use Rattle.model.specs.declared.line.Kind.{Kind}
 use Rattle.model.specs.declared.line.Line.{Line}
 
@@ -31,7 +31,7 @@ abbrev pub room_check : Meaning → Line → ℕ → List Check
 room_check meaning l more = (not (room_granted meaning l more), not_granted (wanted_request l more)) ∷ []
 
 -- a range of elements, and then its alignment
-abbrev pub range_checks : Bound → Bound → ℕ → List Check
+abbrev pub range_checks : Bound ℕ → Bound ℕ → ℕ → List Check
 range_checks first last len =
     (begin_overflows first, Alone BoundOverflow)
     ∷ (finish_overflows last, Alone BoundOverflow)

@@ -13,8 +13,9 @@ ghost use Rattle.model.specs.Checks.{refusal, overflows, request_for, wanted_byt
 use allocation::alignment::Alignment;
 use allocation::fault::{Fault, Refusal};
 use allocation::layout::Layout;
-use model::line::{Bound, Kind, Line};
+use model::line::{Kind, Line};
 use sizes::{grown, is_aligned};
+use std::ops::{Bound, Range};
 
 // The alignment is at least that of the kind.
 pub fn fits_kind(kind: Kind, claim: usize) -> Result<(), Fault>
@@ -23,7 +24,7 @@ pub fn fits_kind(kind: Kind, claim: usize) -> Result<(), Fault>
         (λ f. refusal (below_kind kind claim) ≡ Some f) }
 {
     if claim < kind.align {
-        return Err(Fault::Alone(Refusal::BelowKindAlignment));
+        return Err(Refusal::BelowKindAlignment.into());
     }
     Ok(())
 }
@@ -43,12 +44,8 @@ pub fn block_layout(width: usize, count: usize, m: usize) -> Result<Layout, Faul
         (λ l. (asked l ≡ request_for (count * width + m)) × (refusal (size_checks (count * width + m)) ≡ None))
         (λ f. refusal (size_checks (count * width + m)) ≡ Some f) }
 {
-    let Some(bytes) = count.checked_mul(width) else {
-        return Err(Fault::Alone(Refusal::Overflow));
-    };
-    let Some(size) = bytes.checked_add(m) else {
-        return Err(Fault::Alone(Refusal::Overflow));
-    };
+    let bytes = count.checked_mul(width).ok_or(Refusal::Overflow)?;
+    let size = bytes.checked_add(m).ok_or(Refusal::Overflow)?;
     layout_of(size)
 }
 
@@ -69,9 +66,7 @@ fn bytes_with(line: Line, more: usize) -> Option<usize>
         (overflows ((line.len + more) * line.kind.width) ≡ true)
         (λ n. (n ≡ (line.len + more) * line.kind.width) × (overflows ((line.len + more) * line.kind.width) ≡ false)) }
 {
-    let Some(count) = line.len.checked_add(more) else {
-        return None;
-    };
+    let count = line.len.checked_add(more)?;
     count.checked_mul(line.kind.width)
 }
 
@@ -89,103 +84,98 @@ pub fn room_for(line: Line, more: usize) -> Result<Room, Fault>
         (λ w. (w.bytes ≡ wanted_bytes line more) × (asked w.layout ≡ wanted_request line more) × (refusal (growth_checks line more) ≡ None))
         (λ f. refusal (growth_checks line more) ≡ Some f) }
 {
-    let Some(needed) = bytes_with(line, more) else {
-        return Err(Fault::Alone(Refusal::Overflow));
-    };
+    let needed = bytes_with(line, more).ok_or(Refusal::Overflow)?;
     let bytes = grown(needed, line.capacity * line.kind.width);
-    let Some(size) = bytes.checked_add(line.claim) else {
-        return Err(Fault::Alone(Refusal::Overflow));
-    };
+    let size = bytes.checked_add(line.claim).ok_or(Refusal::Overflow)?;
     let layout = layout_of(size)?;
     Ok(Room { bytes, layout })
 }
 
-// A range of elements: its first, and the one behind its last.
-#[derive(Clone, Copy)]
-pub struct Range {
-    pub begin: usize,
-    pub end: usize,
-}
-
 // The first element of a range.
-fn begin_of(first: Bound) -> Result<usize, Fault>
+fn begin_of(first: Bound<usize>) -> Result<usize, Fault>
     ensures { MatchResult result
         (λ n. (n ≡ begin first) × (begin_overflows first ≡ false))
         (λ f. (f ≡ Alone BoundOverflow) × (begin_overflows first ≡ true)) }
 {
     match first {
         Bound::Included(n) => Ok(n),
-        Bound::Excluded(n) => n.checked_add(1).ok_or(Fault::Alone(Refusal::BoundOverflow)),
+        Bound::Excluded(n) => n.checked_add(1).ok_or(Refusal::BoundOverflow.into()),
         Bound::Unbounded => Ok(0),
     }
 }
 
 // The element behind the last of a range, among so many.
-fn end_of(last: Bound, len: usize) -> Result<usize, Fault>
+fn end_of(last: Bound<usize>, len: usize) -> Result<usize, Fault>
     ensures { MatchResult result
         (λ n. (n ≡ finish last len) × (finish_overflows last ≡ false))
         (λ f. (f ≡ Alone BoundOverflow) × (finish_overflows last ≡ true)) }
 {
     match last {
-        Bound::Included(n) => n.checked_add(1).ok_or(Fault::Alone(Refusal::BoundOverflow)),
+        Bound::Included(n) => n.checked_add(1).ok_or(Refusal::BoundOverflow.into()),
         Bound::Excluded(n) => Ok(n),
         Bound::Unbounded => Ok(len),
     }
 }
 
 // The range between two bounds, among so many elements.
-pub fn range_of(first: Bound, last: Bound, len: usize) -> Result<Range, Fault>
+// The bounds come one by one, since `RangeBounds` would ask of every caller that the range's ends are known.
+pub fn range_of(first: Bound<usize>, last: Bound<usize>, len: usize) -> Result<Range<usize>, Fault>
     ensures { MatchResult result
-        (λ e. (e.begin ≡ begin first) × (e.end ≡ finish last len) × (e.begin ≤ e.end) × (e.end ≤ len) × (refusal (range_checks first last len) ≡ None))
+        (λ e. (e.start ≡ begin first) × (e.end ≡ finish last len) × (e.start ≤ e.end) × (e.end ≤ len) × (refusal (range_checks first last len) ≡ None))
         (λ f. refusal (range_checks first last len) ≡ Some f) }
 {
     let begin = begin_of(first)?;
     let end = end_of(last, len)?;
     if end < begin {
-        return Err(Fault::Alone(Refusal::RangeReversed));
+        return Err(Refusal::RangeReversed.into());
     }
     if len < end {
-        return Err(Fault::Alone(Refusal::RangeBeyondLength));
+        return Err(Refusal::RangeBeyondLength.into());
     }
-    Ok(Range { begin, end })
+    Ok(begin..end)
 }
 
 // Whether a range that holds an element starts at a place that is no multiple of the alignment.
-fn misplaced(range: Range, place: usize, align: usize) -> bool
-    ensures { result ≡ misplaced range.begin range.end place align }
+fn misplaced(range: &Range<usize>, place: usize, align: usize) -> bool
+    ensures { result ≡ misplaced range.now.start range.now.end place align }
 {
-    range.begin < range.end && !place.is_multiple_of(align)
+    !range.is_empty() && !place.is_multiple_of(align)
 }
 
 // A slice may claim the alignment.
-pub fn slice_claims(line: Line, range: Range, claim: usize) -> Result<(), Fault>
-    requires { line.start + range.begin * line.kind.width < 2 ^ 64 }
+pub fn slice_claims(line: Line, range: &Range<usize>, claim: usize) -> Result<(), Fault>
+    requires { line.start + range.now.start * line.kind.width < 2 ^ 64 }
     ensures { MatchResult result
-        (λ _. refusal (placing_checks line range.begin range.end claim) ≡ None)
-        (λ f. refusal (placing_checks line range.begin range.end claim) ≡ Some f) }
+        (λ _. refusal (placing_checks line range.now.start range.now.end claim) ≡ None)
+        (λ f. refusal (placing_checks line range.now.start range.now.end claim) ≡ Some f) }
 {
-    let offset = range.begin * line.kind.width;
+    let offset = range.start * line.kind.width;
     if misplaced(range, offset, claim) {
-        return Err(Fault::Alone(Refusal::OffsetUnaligned));
+        return Err(Refusal::OffsetUnaligned.into());
     }
     if claim < line.kind.align {
-        return Err(Fault::Alone(Refusal::BelowKindAlignment));
+        return Err(Refusal::BelowKindAlignment.into());
     }
     if misplaced(range, line.start + offset, claim) {
-        return Err(Fault::Alone(Refusal::StartUnaligned));
+        return Err(Refusal::StartUnaligned.into());
     }
     Ok(())
 }
 
 // A slice between two bounds may be made, with the alignment that it claims; then its range.
-pub fn slices(line: Line, first: Bound, last: Bound, claim: usize) -> Result<Range, Fault>
+pub fn slices(
+    line: Line,
+    first: Bound<usize>,
+    last: Bound<usize>,
+    claim: usize,
+) -> Result<Range<usize>, Fault>
     requires { line.start + line.len * line.kind.width < 2 ^ 64 }
     ensures { MatchResult result
-        (λ e. (e.begin ≡ begin first) × (e.end ≡ finish last line.len) × (line.start + e.begin * line.kind.width < 2 ^ 64) × (refusal (slice_checks line first last claim) ≡ None))
+        (λ e. (e.start ≡ begin first) × (e.end ≡ finish last line.len) × (line.start + e.start * line.kind.width < 2 ^ 64) × (refusal (slice_checks line first last claim) ≡ None))
         (λ f. refusal (slice_checks line first last claim) ≡ Some f) }
 {
     let range = range_of(first, last, line.len)?;
-    slice_claims(line, range, claim)?;
+    slice_claims(line, &range, claim)?;
     Ok(range)
 }
 
@@ -196,7 +186,7 @@ pub fn starts_aligned(line: Line, claim: usize) -> Result<(), Fault>
         (λ f. refusal (start_check line claim) ≡ Some f) }
 {
     if !is_aligned(line, claim) {
-        return Err(Fault::Alone(Refusal::StartUnaligned));
+        return Err(Refusal::StartUnaligned.into());
     }
     Ok(())
 }
@@ -221,7 +211,7 @@ pub fn regroups(line: Line, kind: Kind, claim: usize) -> Result<(), Fault>
     stays_aligned(kind, line, claim)?;
     let bytes = line.len * line.kind.width;
     if !bytes.is_multiple_of(kind.width) {
-        return Err(Fault::Alone(Refusal::PartialElement));
+        return Err(Refusal::PartialElement.into());
     }
     Ok(())
 }
@@ -233,7 +223,7 @@ pub fn index_within(line: Line, i: usize) -> Result<(), Fault>
         (λ f. refusal (index_check line i) ≡ Some f) }
 {
     if i >= line.len {
-        return Err(Fault::Alone(Refusal::IndexBeyondLength));
+        return Err(Refusal::IndexBeyondLength.into());
     }
     Ok(())
 }
@@ -245,7 +235,7 @@ pub fn unshared(shared: bool) -> Result<(), Fault>
         (λ f. refusal (shared_check shared) ≡ Some f) }
 {
     if shared {
-        return Err(Fault::Alone(Refusal::BackingShared));
+        return Err(Refusal::BackingShared.into());
     }
     Ok(())
 }

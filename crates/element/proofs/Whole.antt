@@ -1,9 +1,10 @@
 -- Lists of values and their bytes, from the law of a kind.
 use Rattle.std.proofs.Common.{◌≡◌, ℕ, zero, suc, ◌+◌, ◌*◌, ◌<◌, List, [], ◌∷◌, ◌++◌, map, length, get_or, take, drop, sym, refl, ap, ◌∙◌, suc-mul, arith}
-use Rattle.std.specs.List.{flat_map, AllByRecursion}
+use Rattle.std.specs.List.{flat_map}
 use Rattle.std.proofs.lemmas.List.{drop-drop, length-append, length-drop, length-take-le, nil_from_length, take-append-drop, take_at, drop_at}
 use Rattle.region.specs.Bytes.{part}
 use Rattle.element.specs.Columns.{Columns}
+use Rattle.element.specs.Joined.{joins_map, wide_map}
 use Rattle.element.specs.Patterns.{Bytes, OneToOne}
 use Rattle.element.proofs.Behind.{length_joined}
 use Rattle.element.specs.Rows.{bytes_take, bytes_drop}
@@ -51,20 +52,12 @@ module _ {K : Type 0} (w : ℕ) (f : K → List ℕ) (law : OneToOne w f) where
       let rest = values_of n (drop w bs) (length-drop w bs ∙ omega arith) (bytes_drop w bs p) in
       (x.0 ∷ rest.0, ap suc rest.1, ap (λ b. b ++ flat_map f rest.0) x.1 ∙ ap (λ b. take w bs ++ b) rest.2 ∙ take-append-drop w bs)
 
-  wide_each : (xs : List K) → AllByRecursion (λ p. length p ≡ w) (map f xs)
-  wide_each [] = tt
-  wide_each (x ∷ xs) = (law.long x, wide_each xs)
-
-  joins_all : (xs : List K) → flat_map (λ p. p) (map f xs) ≡ flat_map f xs
-  joins_all [] = refl
-  joins_all (x ∷ xs) = ap (λ bs. f x ++ bs) (joins_all xs)
-
   pub columns : 0 < w → Columns w f
   columns h = record {
     patterns = λ xs ys. (same_patterns xs ys, ap (map f));
     bytes = λ xs ys. (same_bytes h xs ys, ap (flat_map f));
-    wide = wide_each;
-    joins = joins_all;
+    wide = wide_map w f law.long;
+    joins = joins_map f;
     long = length_joined w f law.long;
     place = part_of;
     every = values_of;

@@ -1,12 +1,11 @@
 -- Numbers and their digits in base 256, over the width: one argument for every integer kind.
-use Rattle.std.specs.Prelude.{◌≡◌, ℕ, zero, suc, ◌+◌, ◌*◌, ◌/◌, ◌%◌, ◌^◌, ◌<◌, ◌≤◌, List, [], ◌∷◌, length, drop, ℤ, pos, negsuc, FitsSigned, slice_index, refl}
+use Rattle.std.specs.Prelude.{◌≡◌, ℕ, zero, suc, ◌+◌, ◌*◌, ◌/◌, ◌%◌, ◌^◌, ◌<◌, ◌≤◌, List, [], ◌∷◌, length, ℤ, pos, negsuc, FitsSigned, slice_index, refl}
 use Rattle.std.proofs.Common.{sym, ap, subst, ◌∙◌, pow-suc, arith, lit<, of_z, to_z, Fits, to_z-of_z}
 use Rattle.std.proofs.Math.Nat.{suc_inj}
 use Rattle.std.specs.Int.{w8, w64}
 use Rattle.std.proofs.Math.Facts.{of_z-to_z, sfits_to_z}
-use Rattle.std.proofs.lemmas.List.{drop_more, drop_all}
 use Rattle.std.proofs.lemmas.Bool.Decides.{nat_tests}
-use Rattle.element.specs.Patterns.{Bytes, OneToOne, Shaped, digits, complement, spelled}
+use Rattle.element.specs.Patterns.{Bytes, OneToOne, Shaped, digits, complement}
 
 -- the number of a list of digits, the lowest first
 abbrev pub value : List ℕ → ℕ
@@ -41,22 +40,10 @@ value_below (b ∷ bs) p =
     let rest : value bs < 256 ^ length bs = value_below bs p.1 in
     rw pow-suc (omega (arith, p.0))
 
--- what is spelled from place k on
-pub spelled_drop : (w k : ℕ) (bs : List ℕ) → length bs ≡ k + w → spelled w k bs ≡ value (drop k bs)
-spelled_drop zero k bs e = sym (ap value (drop_all k bs (omega arith)))
-spelled_drop (suc w) k bs e =
-    let here : drop k bs ≡ slice_index bs k ∷ drop (k + 1) bs = drop_more bs k 0 (omega arith) in
-    let next : suc k ≡ k + 1 = omega arith in
-    let rest : spelled w (suc k) bs ≡ value (drop (k + 1) bs) = spelled_drop w (suc k) bs (omega arith) ∙ ap (λ (n : ℕ). value (drop n bs)) next in
-    omega (arith, ap value here, rest)
-
+-- what code holds in a `u8` is a byte
 pub bytes_held : (bs : List ℕ) → ((i : ℕ) → Fits w8 (slice_index bs i)) → Bytes bs
 bytes_held [] f = tt
 bytes_held (b ∷ bs) f = ((f 0).fits, bytes_held bs (λ i. f (suc i)))
-
--- the number that was read from bytes has them for its digits
-pub read_back : (w : ℕ) (bs : List ℕ) (r : ℕ) → length bs ≡ suc w → ((i : ℕ) → Fits w8 (slice_index bs i)) → r ≡ spelled (suc w) 0 bs → digits (suc w) r ≡ bs
-read_back w bs r n f e = ap (digits (suc w)) (e ∙ spelled_drop (suc w) 0 bs (n ∙ omega arith)) ∙ digits_value w bs n (bytes_held bs f)
 
 -- a kind that is aligned to its width
 pub aligned_to_width : (e : ℕ) → e ≤ 4 → Shaped (2 ^ e) (2 ^ e)

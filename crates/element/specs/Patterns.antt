@@ -1,7 +1,7 @@
 -- What an element kind owes, and the byte patterns of the integers.
 -- A `u32` of the code is any number in a clause, and an `i64` any integer. So the patterns below are one to one on all of them, and those of the
 -- numbers that the type holds are bytes.
-use Rattle.std.specs.Prelude.{◌≡◌, ℕ, zero, suc, ◌+◌, ◌-◌, ◌*◌, ◌/◌, ◌%◌, ◌^◌, ◌<◌, ◌≤◌, cond, List, [], ◌∷◌, length, ℤ, pos, negsuc, nat_lt, slice_index}
+use Rattle.std.specs.Prelude.{◌≡◌, ℕ, zero, suc, ◌+◌, ◌-◌, ◌/◌, ◌%◌, ◌^◌, ◌<◌, ◌≤◌, cond, List, [], ◌∷◌, length, ℤ, pos, negsuc, nat_lt}
 
 -- each entry is a byte
 abbrev pub Bytes : List ℕ → Type 0
@@ -34,8 +34,3 @@ digits (suc (suc w)) n = (n % 256) ∷ digits (suc w) (n / 256)
 unfoldable pub complement : ℤ → ℕ
 complement (pos n) = cond (nat_lt n (2 ^ 63)) n (n + n)
 complement (negsuc n) = cond (nat_lt n (2 ^ 63)) (2 ^ 64 - suc n) (suc (n + n))
-
--- the number that w bytes from place k on spell in base 256, the lowest first
-abbrev pub spelled : ℕ → ℕ → List ℕ → ℕ
-spelled zero k bs = 0
-spelled (suc w) k bs = slice_index bs k + 256 * spelled w (suc k) bs

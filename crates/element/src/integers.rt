@@ -1,9 +1,8 @@
 // SPDX-License-Identifier: Apache-2.0
 // The integer kinds: little-endian, two's complement, aligned to their width.
-ghost use Rattle.std.specs.Prelude.{◌≡◌, length};
-ghost use Rattle.std.specs.Int.{w64};
-ghost use Rattle.std.proofs.Common.{of_z, to_z, lit≤};
-ghost use Rattle.element.specs.Patterns.{digits, complement, spelled};
+// Each is an impl of its own: no trait of the library says that a number and its bytes determine each other.
+ghost use Rattle.std.proofs.Common.{lit≤};
+ghost use Rattle.element.specs.Patterns.{digits, complement};
 ghost use Rattle.element.specs.Digits.{aligned_to_width, unsigned, signed};
 
 use crate::Element;
@@ -32,15 +31,8 @@ impl Element for u8 {
     }
 
     fn get(bytes: &[u8]) -> u8 {
-        read_u8(bytes)
+        u8::from_le_bytes(*bytes.as_array().unwrap())
     }
-}
-
-fn read_u8(bytes: &[u8]) -> u8
-    requires { length bytes.now ≡ 1 }
-    ensures { result ≡ spelled 1 0 bytes.now }
-{
-    u8::from_le_bytes([bytes[0]])
 }
 
 impl Element for u16 {
@@ -67,15 +59,8 @@ impl Element for u16 {
     }
 
     fn get(bytes: &[u8]) -> u16 {
-        read_u16(bytes)
+        u16::from_le_bytes(*bytes.as_array().unwrap())
     }
-}
-
-fn read_u16(bytes: &[u8]) -> u16
-    requires { length bytes.now ≡ 2 }
-    ensures { result ≡ spelled 2 0 bytes.now }
-{
-    u16::from_le_bytes([bytes[0], bytes[1]])
 }
 
 impl Element for u32 {
@@ -102,15 +87,8 @@ impl Element for u32 {
     }
 
     fn get(bytes: &[u8]) -> u32 {
-        read_u32(bytes)
+        u32::from_le_bytes(*bytes.as_array().unwrap())
     }
-}
-
-fn read_u32(bytes: &[u8]) -> u32
-    requires { length bytes.now ≡ 4 }
-    ensures { result ≡ spelled 4 0 bytes.now }
-{
-    u32::from_le_bytes([bytes[0], bytes[1], bytes[2], bytes[3]])
 }
 
 impl Element for u64 {
@@ -137,17 +115,8 @@ impl Element for u64 {
     }
 
     fn get(bytes: &[u8]) -> u64 {
-        read_u64(bytes)
+        u64::from_le_bytes(*bytes.as_array().unwrap())
     }
-}
-
-fn read_u64(bytes: &[u8]) -> u64
-    requires { length bytes.now ≡ 8 }
-    ensures { result ≡ spelled 8 0 bytes.now }
-{
-    u64::from_le_bytes([
-        bytes[0], bytes[1], bytes[2], bytes[3], bytes[4], bytes[5], bytes[6], bytes[7],
-    ])
 }
 
 impl Element for i64 {
@@ -170,24 +139,10 @@ impl Element for i64 {
     }
 
     fn put(&self, out: &mut [u8]) {
-        bits(*self).put(out);
+        self.cast_unsigned().put(out);
     }
 
     fn get(bytes: &[u8]) -> i64 {
-        of_bits(u64::get(bytes))
+        u64::get(bytes).cast_signed()
     }
-}
-
-// The integer's 64 bits as a number.
-fn bits(z: i64) -> u64
-    ensures { result ≡ of_z w64 z }
-{
-    z.cast_unsigned()
-}
-
-// The integer of 64 bits.
-fn of_bits(n: u64) -> i64
-    ensures { result ≡ to_z w64 n }
-{
-    n.cast_signed()
 }

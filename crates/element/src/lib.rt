@@ -9,8 +9,8 @@ ghost use Rattle.element.specs.Patterns.{OneToOne, Shaped};
 pub mod fields;
 pub mod glass_line;
 pub mod integers;
-mod places;
 pub mod theorems;
+pub mod values;
 pub mod writing;
 
 // A kind of element: all its values have one width in bytes, and each value is one byte pattern of that width.

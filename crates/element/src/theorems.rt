@@ -5,7 +5,6 @@ ghost use Rattle.element.specs.Columns.{Columns};
 ghost use Rattle.element.specs.Patterns.{Bytes};
 
 use crate::Element;
-use crate::places::end_of;
 
 // A list of values of any kind and its bytes determine each other.
 pub fn columns_stand<K: Element>()
@@ -17,7 +16,7 @@ pub fn patterns_are_bytes<K: Element>(value: &K)
     ensures { Bytes (K.Element.pattern value.now) }
 {
     let mut out = [0u8; 16];
-    put_bytes(value, &mut out[0..end_of::<K>(0)]);
+    put_bytes(value, &mut out[..K::width()]);
 }
 
 // What was written into bytes is made of bytes.

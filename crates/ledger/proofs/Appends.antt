@@ -1,5 +1,5 @@
 -- From what appending did to what the definitions say of it.
-use Rattle.std.proofs.Common.{◌≡◌, ℕ, ◌+◌, ◌-◌, ◌*◌, ◌^◌, ◌<◌, ◌≤◌, List, [], ◌∷◌, length, set, Some, None, Option, sym, refl, ap, ◌∙◌, subst, append-nil, mul-le-mul_right, mul_comm, add-mul, arith}
+use Rattle.std.proofs.Common.{◌≡◌, ℕ, ◌+◌, ◌-◌, ◌*◌, ◌^◌, ◌<◌, ◌≤◌, List, [], ◌∷◌, length, set, Some, None, Option, sym, refl, ap, ◌∙◌, subst, mul-le-mul_right, mul_comm, add-mul, arith}
 use Rattle.std.specs.List.{flat_map as JoinedBy}
 use Rattle.region.specs.Bytes.{overwrite}
 use Rattle.allocation.specs.declared.block.Block.{Block}
@@ -8,8 +8,8 @@ use Rattle.model.specs.Answers.{Answers}
 use Rattle.model.specs.Book.{State, block_of, line, look_up}
 use Rattle.model.specs.Calls.{Append, Reserve, granted}
 use Rattle.model.specs.Effects.{appended, put_line, with_bytes, with_meaning, with_len}
-use Rattle.model.specs.Invariant.{Plain, Sits, Stands}
-use Rattle.model.specs.Patterns.{joined, Even}
+use Rattle.model.specs.Invariant.{Sits, Stands}
+use Rattle.model.specs.Patterns.{joined}
 use Rattle.model.specs.declared.line.Handle.{Handle}
 use Rattle.model.specs.declared.line.Line.{Line}
 use Rattle.model.proofs.Checks.{line_is}
@@ -18,25 +18,16 @@ use Rattle.ledger.specs.Moving.{Behind, Roomy}
 use Rattle.ledger.specs.Results.{Grants, Refuses}
 use Rattle.ledger.specs.declared.spot.Spot.{Spot}
 use Rattle.ledger.proofs.Edits.{put_here, over}
-use Rattle.ledger.proofs.Ties.{limited}
 
-pub joined_one : (v : List ℕ) → v ≡ joined (v ∷ [])
-unfolding joined
-joined_one v = sym (append-nil v)
-
-pub even_one : (w : ℕ) (v : List ℕ) → length v ≡ w → Even w (v ∷ [])
-unfolding Even
-even_one w v e = (e, tt)
-
-pub joined_none : {X : Type 0} (f : X → List ℕ) (xs : List X) → length xs ≡ 0 → JoinedBy f xs ≡ []
-joined_none f [] e = refl
-joined_none f (x ∷ xs) e = absurd (omega (arith, e))
+pub joined_none : (ps : List (List ℕ)) → length ps ≡ 0 → JoinedBy (λ p. p) ps ≡ []
+joined_none [] e = refl
+joined_none (p ∷ ps) e = absurd (omega (arith, e))
 
 some_block : (base : ℕ) (l : Line) (o : Option Block) → Sits base l o → 1 ≤ l.capacity → (b : Block) × (o ≡ Some b) × (base + b.place ≤ l.start) × (l.start + l.capacity * l.kind.width ≤ base + (b.place + b.size))
 some_block base l None s h = absurd (omega (arith, s.1))
 some_block base l (Some b) s h = (b, refl, s.0, s.2)
 
-module _ (st : State) (p : Plain) (h : Handle) (n : ℕ) (spot : Spot) (mid : State) (p' : Plain) (a : Roomy st p h n spot mid p') where
+module _ (st : State) (h : Handle) (n : ℕ) (spot : Spot) (mid : State) (a : Roomy st h n spot mid) where
   abbrev l : Line
   l = spot.line
 
@@ -49,7 +40,7 @@ module _ (st : State) (p : Plain) (h : Handle) (n : ℕ) (spot : Spot) (mid : St
       let w = a.still.lawful.within b.0 (a.still.sure.held h.serial l b.0 a.found b.1) in
       let m = mul-le-mul_right l.kind.width a.room in
       let s = add-mul l.len n l.kind.width in
-      let lim = limited mid p' a.still in
+      let lim = a.still.limits in
       (omega (arith, b.2), omega (arith, b.2, b.3, w, m, s, a.still.long), omega (arith, b.2, b.3, w, m, s, lim.1, lim.3))
 
   pub count_fits : l.len + n < 2 ^ 64
@@ -60,7 +51,7 @@ module _ (st : State) (p : Plain) (h : Handle) (n : ℕ) (spot : Spot) (mid : St
       go (Some b) q s =
           let w = a.still.lawful.within b (a.still.sure.held h.serial l b a.found q) in
           let c : l.capacity ≤ l.capacity * l.kind.width = omega (arith, mul-le-mul_right l.capacity stands.wide, mul_comm l.capacity l.kind.width) in
-          omega (arith, a.room, s.0, s.2, w, (limited mid p' a.still).3, c)
+          omega (arith, a.room, s.0, s.2, w, a.still.limits.3, c)
 
   pub same_width : (w : ℕ) → h.kind.width ≡ w → l.kind.width ≡ w
   same_width w e = ap (λ (k : Rattle.model.specs.declared.line.Kind.Kind). k.width) a.kind ∙ e

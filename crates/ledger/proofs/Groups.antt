@@ -34,11 +34,11 @@ module _ (st : State) (h : Handle) (c : Call) where
   unused makes f e p = ap (λ (b : Brings). refusal (behind st b (own st c))) e ∙ stops (entry st h) ((makes && full st, Alone NoHandleLeft) ∷ own st c) f p
 
   -- .. that makes one
-  pub used_free : brings c ≡ bringing (h ∷ []) true → refusal (entry st h) ≡ None → refusal (handle_check st) ≡ None → refusal (checks st (length st.bytes) c) ≡ refusal (own st c)
-  used_free e p q = ap (λ (b : Brings). refusal (behind st b (own st c))) e ∙ passes (entry st h) (handle_check st ++ own st c) p ∙ passes (handle_check st) (own st c) q
+  pub used_free : brings c ≡ bringing (h ∷ []) true → refusal (entry st h) ≡ None → refusal (handle_check st.next st.lines) ≡ None → refusal (checks st (length st.bytes) c) ≡ refusal (own st c)
+  used_free e p q = ap (λ (b : Brings). refusal (behind st b (own st c))) e ∙ passes (entry st h) (handle_check st.next st.lines ++ own st c) p ∙ passes (handle_check st.next st.lines) (own st c) q
 
-  pub unfree : (f : Fault) → brings c ≡ bringing (h ∷ []) true → refusal (entry st h) ≡ None → refusal (handle_check st) ≡ Some f → refusal (checks st (length st.bytes) c) ≡ Some f
-  unfree f e p q = ap (λ (b : Brings). refusal (behind st b (own st c))) e ∙ passes (entry st h) (handle_check st ++ own st c) p ∙ stops (handle_check st) (own st c) f q
+  pub unfree : (f : Fault) → brings c ≡ bringing (h ∷ []) true → refusal (entry st h) ≡ None → refusal (handle_check st.next st.lines) ≡ Some f → refusal (checks st (length st.bytes) c) ≡ Some f
+  unfree f e p q = ap (λ (b : Brings). refusal (behind st b (own st c))) e ∙ passes (entry st h) (handle_check st.next st.lines ++ own st c) p ∙ stops (handle_check st.next st.lines) (own st c) f q
 
 -- a reading that no check refuses
 pub granted_reading : (st : State) (h : Handle) → refusal (checks st (length st.bytes) (read h)) ≡ None → Grants st (read h) 0 st

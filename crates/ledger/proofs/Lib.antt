@@ -8,6 +8,7 @@ pub mod Movings
 pub mod Reserves
 pub mod Appends
 pub mod LineEdits
+pub mod Changes
 pub mod Copies
 pub mod Hands
 pub mod Slices

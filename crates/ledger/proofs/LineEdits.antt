@@ -1,5 +1,5 @@
 -- Calls that change one line: one argument for all of them.
-use Rattle.std.proofs.Common.{◌≡◌, ℕ, ◌+◌, ◌-◌, ◌*◌, ◌^◌, ◌<◌, ◌≤◌, Bool, true, false, List, [], ◌∷◌, length, set, Some, None, Option, sym, refl, ap, ◌∙◌, mul-le-mul_right, zero-mul, arith}
+use Rattle.std.proofs.Common.{◌≡◌, ℕ, ◌+◌, ◌-◌, ◌*◌, ◌^◌, ◌<◌, ◌≤◌, Bool, true, false, List, [], ◌∷◌, length, Some, None, Option, sym, refl, ap, ◌∙◌, mul-le-mul_right, zero-mul, arith}
 use Rattle.region.specs.Bytes.{overwrite}
 use Rattle.allocation.specs.declared.block.Block.{Block}
 use Rattle.allocation.specs.declared.fault.Fault.{Fault}
@@ -8,8 +8,8 @@ use Rattle.sizes.specs.Numbers.{state_with}
 use Rattle.model.specs.Book.{State, block_of, line}
 use Rattle.model.specs.Calls.{Call, Set, done}
 use Rattle.model.specs.Checks.{Check, refusal, brings, checks, own, uses}
-use Rattle.model.specs.Effects.{Does, put_line, shortened, unfrozen, with_bytes}
-use Rattle.model.specs.Invariant.{Plain, Sits, Stands}
+use Rattle.model.specs.Effects.{shortened, unfrozen, with_bytes}
+use Rattle.model.specs.Invariant.{Sits, Stands}
 use Rattle.model.specs.declared.line.Backing.{Backing}
 use Rattle.model.specs.declared.line.Backing.TheVariants.{Unbacked, Empty, Owned}
 use Rattle.model.specs.declared.line.Handle.{Handle}
@@ -18,9 +18,8 @@ use Rattle.model.proofs.Checks.{held}
 use Rattle.ledger.specs.Entry.{Admitted}
 use Rattle.ledger.specs.Results.{Grants}
 use Rattle.ledger.specs.declared.spot.Spot.{Spot}
-use Rattle.ledger.proofs.Edits.{is_line, serial_is, put_only, over}
+use Rattle.ledger.proofs.Edits.{is_line, over}
 use Rattle.ledger.proofs.Groups.{bringing, used, known_by}
-use Rattle.ledger.proofs.Ties.{limited}
 
 -- some changes leave the serial, whichever way they go
 pub shortened_serial : (b : Bool) (n : ℕ) (l : Line) → (shortened b n l).serial ≡ l.serial
@@ -38,7 +37,7 @@ unfrozen_base st base l Unbacked e = refl
 unfrozen_base st base l (Empty n) e = refl
 unfrozen_base st base l (Owned b) e = ap (λ z. unfrozen (state_with 0 z) l (Owned b)) e
 
-module _ (st : State) (p : Plain) (h : Handle) (spot : Spot) (a : Admitted st p h spot) where
+module _ (st : State) (h : Handle) (spot : Spot) (a : Admitted st h spot) where
   pub stands : Stands st.meaning.base spot.line
   stands = a.ready.sure.stands h.serial spot.line a.found
 
@@ -53,23 +52,15 @@ module _ (st : State) (p : Plain) (h : Handle) (spot : Spot) (a : Admitted st p 
           (omega arith, omega arith)
       go (Some b) q s =
           let w = a.ready.lawful.within b (a.ready.sure.held h.serial spot.line b a.found q) in
-          let lim = limited st p a.ready in
+          let lim = a.ready.limits in
           (omega (arith, s.0, s.1, w, lim.3), omega (arith, s.0, s.2, w, lim.3))
 
   module _ (c : Call) (k : Line → List Check) (e : brings c ≡ bringing (h ∷ []) false) (o : own st c ≡ k (line st h)) where
-    passing : refusal (checks st (length st.bytes) c) ≡ refusal (k spot.line)
-    passing = used st h c e a.passed ∙ ap refusal o ∙ ap (λ (z : Line). refusal (k z)) (sym (is_line st p h spot a))
+    pub passing : refusal (checks st (length st.bytes) c) ≡ refusal (k spot.line)
+    passing = used st h c e a.passed ∙ ap refusal o ∙ ap (λ (z : Line). refusal (k z)) (sym (is_line st h spot a))
 
     pub edit_refused : (f : Fault) → refusal (k spot.line) ≡ Some f → refusal (checks st (length st.bytes) c) ≡ Some f
     edit_refused f q = passing ∙ q
-
-    pub edited : (f : Line → Line) → ((st' : State) → st' ≡ put_line st (f (line st h)) → Does st c done st') → (new : Line) (ls : List Line) → refusal (k spot.line) ≡ None → new ≡ f spot.line → new.serial ≡ spot.line.serial → ls ≡ set st.lines spot.place new
-        → Grants st c 0 (over st ls st.meaning st.bytes)
-    edited f does new ls q en es el = (
-      done,
-      refl,
-      (passing ∙ q, does (over st ls st.meaning st.bytes) (put_only st p h spot a new ls (es ∙ serial_is st p h spot a) el ∙ ap (put_line st) (en ∙ ap f (is_line st p h spot a)))),
-    )
 
   -- an element of a line with elements
   pub element_fits : (i base extent : ℕ) → i < spot.line.len → base ≡ st.meaning.base → extent ≡ length st.bytes
@@ -81,17 +72,17 @@ module _ (st : State) (p : Plain) (h : Handle) (spot : Spot) (a : Admitted st p 
       go None q s = absurd (omega (arith, s.0))
       go (Some b) q s =
           let w = a.ready.lawful.within b (a.ready.sure.held h.serial spot.line b a.found q) in
-          let lim = limited st p a.ready in
+          let lim = a.ready.limits in
           let x : (i + 1) * spot.line.kind.width ≤ spot.line.len * spot.line.kind.width = mul-le-mul_right spot.line.kind.width (let z : i + 1 ≤ spot.line.len = omega arith in z) in
           let y : (i + 1) * spot.line.kind.width ≡ i * spot.line.kind.width + spot.line.kind.width = native.Mathlib.Nat.add-mul i 1 spot.line.kind.width ∙ omega arith in
           (omega (arith, s.0), omega (arith, s.0, s.1, w, lim.1, lim.3), omega (arith, s.0, s.1, w, a.ready.long))
 
   pub line_width : (w : ℕ) → h.kind.width ≡ w → spot.line.kind.width ≡ w
-  line_width w e = ap (λ (z : Line). z.kind.width) (is_line st p h spot a) ∙ ap (λ (z : Rattle.model.specs.declared.line.Kind.Kind). z.width) (held st h (known_by st h a.passed)).kind ∙ e
+  line_width w e = ap (λ (z : Line). z.kind.width) (is_line st h spot a) ∙ ap (λ (z : Rattle.model.specs.declared.line.Kind.Kind). z.width) (held st h (known_by st h a.passed)).kind ∙ e
 
   pub set_done : (em : h.mutable ≡ true) (i base place : ℕ) (v xs : List ℕ) → refusal (index_check spot.line i) ≡ None → base ≡ st.meaning.base → place ≡ spot.line.start - base + i * spot.line.kind.width → xs ≡ overwrite place v st.bytes
       → Grants st (Set h i v) 0 (over st st.lines st.meaning xs)
   unfolding with_bytes
   set_done em i base place v xs q eb ep ex =
-      let at : place ≡ (line st h).start - st.meaning.base + i * (line st h).kind.width = ep ∙ ap (λ b. spot.line.start - b + i * spot.line.kind.width) eb ∙ ap (λ (z : Line). z.start - st.meaning.base + i * z.kind.width) (is_line st p h spot a) in
+      let at : place ≡ (line st h).start - st.meaning.base + i * (line st h).kind.width = ep ∙ ap (λ b. spot.line.start - b + i * spot.line.kind.width) eb ∙ ap (λ (z : Line). z.start - st.meaning.base + i * z.kind.width) (is_line st h spot a) in
       (done, refl, (passing (Set h i v) (λ l. index_check l i) (ap (uses h) em) refl ∙ q, (refl, ap (with_bytes st) (ex ∙ ap (λ z. overwrite z v st.bytes) at))))

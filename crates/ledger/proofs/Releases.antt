@@ -11,7 +11,6 @@ use Rattle.model.specs.declared.line.Line.{Line}
 use Rattle.model.specs.Book.{State, block_of, one_backing, serial_of, shared_by}
 use Rattle.model.specs.Calls.{Release, done}
 use Rattle.model.specs.Effects.{block_left, GivesBack}
-use Rattle.model.specs.Invariant.{Plain}
 use Rattle.model.specs.Keyed.{any_other}
 use Rattle.model.proofs.Backings.{same_block_refl}
 use Rattle.model.proofs.Shapes.{never}
@@ -41,7 +40,7 @@ pub left_own : (shared : Bool) (l : Line) (b : Block) → block_left shared l �
 left_own true l b e = absurd (never refl e)
 left_own false l b e = e
 
-module _ (st : State) (p : Plain) (h : Handle) (spot : Spot) (a : Admitted st p h spot) where
+module _ (st : State) (h : Handle) (spot : Spot) (a : Admitted st h spot) where
   -- the block that is left goes back
   pub goes_back : (shared : Bool) (o : Option Block) (f : Fault) → o ≡ block_left shared spot.line → give_fault st.meaning (length st.bytes) o ≡ Some f → ⊥
   goes_back shared o f e r = taken_back st.meaning (length st.bytes) o f a.ready.long (λ b q. a.ready.sure.held h.serial spot.line b a.found (left_own shared spot.line b (sym e ∙ q))) r
@@ -52,4 +51,4 @@ module _ (st : State) (p : Plain) (h : Handle) (spot : Spot) (a : Admitted st p 
   unfolding shared_by
   released shared o m ls es eo g el =
       let back : GivesBack st.meaning (block_left (shared_by st spot.line) spot.line) m = rw (sym es) (rw eo at g) in
-      (done, refl, (used st h (Release h) refl a.passed, (m, subst (λ (z : Line). GivesBack st.meaning (block_left (shared_by st z) z) m) (is_line st p h spot a) back, refl, end_is st p h spot a ls m el)))
+      (done, refl, (used st h (Release h) refl a.passed, (m, subst (λ (z : Line). GivesBack st.meaning (block_left (shared_by st z) z) m) (is_line st h spot a) back, refl, end_is st h spot a ls m el)))

@@ -3,7 +3,7 @@ use Rattle.std.proofs.Common.{◌≡◌, ℕ, ◌+◌, ◌*◌, ◌≤◌, List,
 use Rattle.region.specs.Bytes.{part}
 use Rattle.allocation.specs.declared.block.Block.{Block}
 use Rattle.model.specs.Book.{State, block_of, line, shown, shown_on}
-use Rattle.model.specs.Invariant.{Plain, Sits}
+use Rattle.model.specs.Invariant.{Sits}
 use Rattle.model.specs.Reads.{len_of, place_on, shown_place, slice_place}
 use Rattle.model.specs.declared.line.Handle.{Handle}
 use Rattle.model.specs.declared.line.Kind.{Kind}
@@ -24,9 +24,9 @@ unfolding shown_on
 shown_of base l xs None s = ap (λ n. part 0 n xs) (ap (λ n. n * l.kind.width) s.0 ∙ zero-mul l.kind.width) ∙ part_none xs
 shown_of base l xs (Some b) s = refl
 
-module _ (st : State) (p : Plain) (h : Handle) (spot : Spot) (a : Admitted st p h spot) (base : ℕ) (eb : base ≡ st.meaning.base) where
+module _ (st : State) (h : Handle) (spot : Spot) (a : Admitted st h spot) (base : ℕ) (eb : base ≡ st.meaning.base) where
   pub shown_inside : shown_place base spot.line + spot.line.len * spot.line.kind.width ≤ length st.bytes
-  shown_inside = go (block_of spot.line.backing) refl (stands st p h spot a).sits
+  shown_inside = go (block_of spot.line.backing) refl (stands st h spot a).sits
     where
       go : (o : Option Block) → block_of spot.line.backing ≡ o → Sits st.meaning.base spot.line o → place_on o base spot.line + spot.line.len * spot.line.kind.width ≤ length st.bytes
       go None q s = let x : spot.line.len * spot.line.kind.width ≡ 0 = ap (λ n. n * spot.line.kind.width) s.0 ∙ zero-mul spot.line.kind.width in omega arith
@@ -34,12 +34,12 @@ module _ (st : State) (p : Plain) (h : Handle) (spot : Spot) (a : Admitted st p 
 
   pub shown_part : part (shown_place base spot.line) (spot.line.len * spot.line.kind.width) st.bytes ≡ shown st.meaning.base (line st h) st.bytes
   unfolding shown
-  shown_part = ap (λ b. part (shown_place b spot.line) (spot.line.len * spot.line.kind.width) st.bytes) eb ∙ shown_of st.meaning.base spot.line st.bytes (block_of spot.line.backing) (stands st p h spot a).sits
-      ∙ ap (λ (z : Line). shown st.meaning.base z st.bytes) (is_line st p h spot a)
+  shown_part = ap (λ b. part (shown_place b spot.line) (spot.line.len * spot.line.kind.width) st.bytes) eb ∙ shown_of st.meaning.base spot.line st.bytes (block_of spot.line.backing) (stands st h spot a).sits
+      ∙ ap (λ (z : Line). shown st.meaning.base z st.bytes) (is_line st h spot a)
 
   -- the same part, at the handle's own place
   pub shown_at : part (shown_place base spot.line) (spot.line.len * spot.line.kind.width) st.bytes ≡ part (slice_place st h) (len_of st h * h.kind.width) st.bytes
   shown_at =
       ap (λ b. part (shown_place b spot.line) (spot.line.len * spot.line.kind.width) st.bytes) eb
-      ∙ ap (λ (z : Line). part (shown_place st.meaning.base z) (z.len * z.kind.width) st.bytes) (is_line st p h spot a)
+      ∙ ap (λ (z : Line). part (shown_place st.meaning.base z) (z.len * z.kind.width) st.bytes) (is_line st h spot a)
       ∙ ap (λ (k : Kind). part (slice_place st h) (len_of st h * k.width) st.bytes) (held st h (known_by st h a.passed)).kind

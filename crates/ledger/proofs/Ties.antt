@@ -1,5 +1,6 @@
 -- From a ledger's own fields to the invariant of runs, and to the fields after a call.
-use Rattle.std.proofs.Common.{◌≡◌, ℕ, Bool, true, false, not, ◌&&◌, leb, List, [], ◌∷◌, length, None, sym, refl, ap, ◌∙◌, subst, arith}
+use Rattle.std.proofs.Common.{◌≡◌, ℕ, Bool, true, false, not, ◌&&◌, leb, List, [], ◌∷◌, length, None, sym, refl, subst, arith}
+use mathlib.Core.Logic.{∥∥₁_map}
 use Rattle.std.proofs.lemmas.Bool.{leb-true, not-true}
 use Rattle.allocation.specs.declared.block.Block.{Block}
 use Rattle.allocation.specs.Faults.{any_block}
@@ -24,42 +25,39 @@ abbrev pub Fields : ℕ → List Line → Plain → Type 0
 Fields next ls p = record { sure : ∥ Sure next ls p ∥₁; limits : Limits p }
 
 -- what the fields say, at a region of the allocator's length
-pub readied : (st : State) (p : Plain) → Lawful st.meaning → length st.bytes ≡ st.meaning.extent → ∥ Sure st.next st.lines p ∥₁ → Limits p → plain_of st.meaning ≡ p → Ready st p
-readied st p law long t lim tie = record {
+pub readied : (st : State) → Lawful st.meaning → length st.bytes ≡ st.meaning.extent → Fields st.next st.lines (plain_of st.meaning) → Ready st
+readied st law long f = record {
   lawful = law;
   long = long;
-  sure = strip st.next st.lines (plain_of st.meaning) (subst (λ q. ∥ Sure st.next st.lines q ∥₁) (sym tie) t);
-  limits = lim;
-  tie = tie;
+  sure = strip st.next st.lines (plain_of st.meaning) f.sure;
+  limits = f.limits;
 }
 
-module _ (st : State) (p : Plain) (r : Ready st p) where
+module _ (st : State) (r : Ready st) where
   pub well : Well st
   well = sure_well st r.lawful r.long r.sure
 
-  -- the limits, as the allocator means them
-  pub limited : Limits (plain_of st.meaning)
-  limited = subst Limits (sym r.tie) r.limits
-
-  -- the fields after a call
-  pub after : (c : Call) (s : ℕ) (st' : State) (p' : Plain) → Sound c → Grants st c s st' → plain_of st'.meaning ≡ p' → Fields st'.next st'.lines p'
-  after c s st' p' sound q e =
+  -- the fields after a call that is sound by a type that says so truncated
+  pub after_typed : (c : Call) (s : ℕ) (st' : State) → ∥ Sound c ∥₁ → Grants st c s st' → Fields st'.next st'.lines (plain_of st'.meaning)
+  after_typed c s st' sound q =
       let f : Fixed st.meaning st'.meaning = fixed_by st (length st.bytes) c (granted q.0) st' q.2 in
-      let l : Limits (plain_of st'.meaning) = (omega (arith, limited.0, f.base), omega (arith, limited.1, f.base), omega (arith, limited.2, f.extent), omega (arith, limited.3, f.extent)) in
-      record { sure = ∣ subst (Sure st'.next st'.lines) e (keeps_sure st (length st.bytes) c (granted q.0) st' r.lawful refl sound q.2 r.sure) ∣₁; limits = subst Limits e l }
+      let l = r.limits in
+      record {
+        sure = ∥∥₁_map sound (λ k. keeps_sure st (length st.bytes) c (granted q.0) st' r.lawful refl k q.2 r.sure);
+        limits = (omega (arith, l.0, f.base), omega (arith, l.1, f.base), omega (arith, l.2, f.extent), omega (arith, l.3, f.extent));
+      }
+
+  -- the same after a sound one
+  pub after : (c : Call) (s : ℕ) (st' : State) → Sound c → Grants st c s st' → Fields st'.next st'.lines (plain_of st'.meaning)
+  after c s st' sound q = after_typed c s st' ∣ sound ∣₁ q
 
   -- what the fields give, after a call
-  pub ready_after : (c : Call) (s : ℕ) (st' : State) (p' : Plain) → Sound c → Grants st c s st' → plain_of st'.meaning ≡ p' → Ready st' p'
-  ready_after c s st' p' sound q e =
-      let w = well_inv st' (well_on st (length st.bytes) c (granted q.0) st' well sound q.2) in
-      let f = after c s st' p' sound q e in
-      readied st' p' w.law w.long f.sure f.limits e
+  pub ready_after : (c : Call) (s : ℕ) (st' : State) → Sound c → Grants st c s st' → Ready st'
+  ready_after c s st' sound q = let w = well_inv st' (well_on st (length st.bytes) c (granted q.0) st' well sound q.2) in readied st' w.law w.long (after c s st' sound q)
 
-  -- nothing changed but, perhaps, the value that is held
-  pub same : (m : Meaning) (p' : Plain) → m ≡ st.meaning → plain_of m ≡ p' → Fields st.next st.lines p'
-  same m p' e tie' =
-      let q : p ≡ p' = sym r.tie ∙ ap plain_of (sym e) ∙ tie' in
-      record { sure = ∣ subst (Sure st.next st.lines) (r.tie ∙ q) r.sure ∣₁; limits = subst Limits q r.limits }
+  -- nothing changed but, perhaps, the allocator's own fields
+  pub same : (m : Meaning) → m ≡ st.meaning → Fields st.next st.lines (plain_of m)
+  same m e = subst (λ z. Fields st.next st.lines (plain_of z)) (sym e) (record { sure = ∣ r.sure ∣₁; limits = r.limits })
 
 no_line : (s : ℕ) → find serial_of s [] ≡ None
 unfolding find
@@ -78,18 +76,18 @@ none_live [] e = refl
 none_live (b ∷ bs) e = absurd (mathlib.Core.Bool.true≢false e)
 
 -- the fields of a new store
-pub fresh : (m : Meaning) (p : Plain) (ls : List Line) → any_block m.live ≡ false → Limits (plain_of m) → p ≡ plain_of m → ls ≡ [] → Fields 1 ls p
-fresh m p ls e lim q f = record {
-  sure = subst (λ (zs : List Line). ∥ Sure 1 zs p ∥₁) (sym f) ∣ record {
+pub fresh : (m : Meaning) (next : ℕ) (ls : List Line) → any_block m.live ≡ false → Limits (plain_of m) → (next ≡ 1) × (ls ≡ []) → Fields next ls (plain_of m)
+fresh m next ls e lim f = record {
+  sure = subst (λ n. ∥ Sure n ls (plain_of m) ∥₁) (sym f.0) (subst (λ (zs : List Line). ∥ Sure 1 zs (plain_of m) ∥₁) (sym f.1) ∣ record {
     order = none_rising;
     counted = record { begun = omega arith; unspent = omega arith; few = omega arith };
     each = tt;
     stands = λ s l x. absurd (never (no_line s) x);
     held = λ s l b x y. absurd (never (no_line s) x);
-    used = λ b x. absurd (no_block b (subst (Among b) (ap (λ z. z.live) q ∙ none_live m.live e) x));
+    used = λ b x. absurd (no_block b (subst (Among b) (none_live m.live e) x));
     alone = λ s t l k b d x y g h. absurd (never (no_line s) x);
-  } ∣₁;
-  limits = subst Limits (sym q) lim;
+  } ∣₁);
+  limits = lim;
 }
 
 both : (a b : Bool) → (a && b) ≡ true → (a ≡ true) × (b ≡ true)
@@ -106,8 +104,8 @@ served m e =
     (not-true (any_block m.live) a.1, (leb-true least_base m.base b.0, leb-true m.base greatest_base c.0, leb-true least_extent m.extent d.0, leb-true m.extent greatest_extent d.1))
 
 -- the state of a store that was opened
-pub opened_is : (number : ℕ) (a m : Meaning) (ls : List Line) (bytes : List ℕ) → a ≡ m → ls ≡ [] → record { number = number; next = 1; lines = ls; meaning = a; bytes = bytes } ≡ opened number m bytes
-opened_is number a m ls bytes p q = λ j. record { number = number; next = 1; lines = q j; meaning = p j; bytes = bytes }
+pub opened_is : (number : ℕ) (m : Meaning) (next : ℕ) (ls : List Line) (bytes : List ℕ) → (next ≡ 1) × (ls ≡ []) → record { number = number; next = next; lines = ls; meaning = m; bytes = bytes } ≡ opened number m bytes
+opened_is number m next ls bytes q = λ j. record { number = number; next = q.0 j; lines = q.1 j; meaning = m; bytes = bytes }
 
 -- what was opened starts a run
 pub starts : (number : ℕ) (m : Meaning) → Lawful m → serves m ≡ true → (bytes : List ℕ) → length bytes ≡ m.extent → New (record { state = opened number m bytes; table = [] })

@@ -1,8 +1,11 @@
 pub mod Limits
 pub mod Results
+pub mod Registered
 pub mod Entry
+pub mod Changes
 pub mod View
 pub mod Giving
 pub mod Making
 pub mod Moving
 pub mod Copying
+pub mod Claims

@@ -9,7 +9,6 @@ use Rattle.checks.specs.Groups.{below_kind, size_checks}
 use Rattle.sizes.specs.Numbers.{Spaced}
 use Rattle.model.specs.Book.{State}
 use Rattle.model.specs.Checks.{Check, refusal, request_for, not_granted}
-use Rattle.model.specs.Invariant.{Plain}
 use Rattle.model.specs.Kinds.{SoundKind}
 use Rattle.model.specs.declared.line.Kind.{Kind}
 use Rattle.ledger.specs.Entry.{Opened}
@@ -30,8 +29,8 @@ abbrev pub plan_checks : Kind → ℕ → ℕ → ℕ → List Check
 plan_checks k c claim m = below_kind k claim ++ size_checks (c * k.width + m)
 
 -- a making of c elements may ask for its block
-pub record Planned (st : State) (p : Plain) (k : Kind) (c claim preferred : ℕ) (plan : Plan) : Type 0 where
-  pub opened : Opened st p plan.serial
+pub record Planned (st : State) (k : Kind) (c claim preferred : ℕ) (plan : Plan) : Type 0 where
+  pub opened : Opened st plan.serial
   pub m : plan.m ≡ max claim preferred
   pub base : plan.base ≡ st.meaning.base
   pub asks : asked plan.layout ≡ request_for (c * k.width + max claim preferred)

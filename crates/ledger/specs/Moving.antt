@@ -10,7 +10,6 @@ use Rattle.model.specs.Book.{State, block_of, look_up}
 use Rattle.model.specs.Calls.{Reserve}
 use Rattle.model.specs.Checks.{smaller, growth_granted}
 use Rattle.model.specs.Effects.{TakesNew, Grown}
-use Rattle.model.specs.Invariant.{Plain}
 use Rattle.model.specs.declared.line.Handle.{Handle}
 use Rattle.model.specs.declared.line.Line.{Line}
 use Rattle.ledger.specs.Entry.{Ready}
@@ -53,18 +52,18 @@ pub record Moved (m : Meaning) (bytes : List ℕ) (l : Line) (r : Request) (b : 
   pub within : b.place + b.size ≤ m.extent
 
 -- what reserving leaves for an append: the line, with room for more elements
-pub record Roomy (st : State) (p : Plain) (h : Handle) (more : ℕ) (spot : Spot) (st' : State) (p' : Plain) : Type 0 where
-  pub ready : Ready st p
-  pub still : Ready st' p'
+pub record Roomy (st : State) (h : Handle) (more : ℕ) (spot : Spot) (st' : State) : Type 0 where
+  pub ready : Ready st
+  pub still : Ready st'
   pub grants : Grants st (Reserve h more) 0 st'
   pub here : At st'.lines spot.place h.serial
   pub found : look_up h.serial st' ≡ Some spot.line
   pub room : spot.line.len + more ≤ spot.line.capacity
   pub kind : spot.line.kind ≡ h.kind
 
-abbrev pub Reserved : State → Plain → Handle → ℕ → Result Spot Fault → State → Plain → Type 0
-Reserved st p h more (Ok spot) st' p' = Roomy st p h more spot st' p'
-Reserved st p h more (Err f) st' p' = Refuses st (Reserve h more) f st'
+abbrev pub Reserved : State → Handle → ℕ → Result Spot Fault → State → Type 0
+Reserved st h more (Ok spot) st' = Roomy st h more spot st'
+Reserved st h more (Err f) st' = Refuses st (Reserve h more) f st'
 
 -- n more elements stand inside a region of so many bytes
 abbrev pub Behind : ℕ → Line → ℕ → ℕ → Type 0

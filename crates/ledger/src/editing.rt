@@ -4,39 +4,55 @@
 // `try_into_mut` and `ensure_aligned` of src/buffer.rs of vortex-buffer 0.90.0.
 ghost use Rattle.std.specs.Prelude.{◌≡◌, true, false, not, ◌&&◌, length};
 ghost use Rattle.allocation.specs.Alignments.{IsAlignment};
+ghost use Rattle.allocation.specs.Asked.{bytes_of};
+ghost use Rattle.ledger.specs.Changes.{Asks, Changed, Keeps};
 ghost use Rattle.ledger.specs.Results.{Done};
 ghost use Rattle.ledger.specs.View.{state};
 ghost use Rattle.model.specs.Calls.{Truncate, Clear, Freeze, IntoBytes, FromBytes, TryIntoMut, EnsureAligned, Set};
 ghost use Rattle.model.specs.Kinds.{SoundKind, is_byte};
 
 use crate::ledger::Ledger;
+use allocation::alignment::Alignment;
 use allocation::allocation::Allocator;
 use allocation::fault::Fault;
-use book::lines::{frozen, shortened, with_claim, with_len};
 use checks::{index_within, regroups, stays_aligned, unshared};
 use element::Element;
 use element::writing::write_one;
-use model::line::{Handle, Kind};
+use model::line::{Handle, Kind, Line};
 use sizes::{element_place, from_bytes, into_bytes, unfrozen};
 
 impl<B: Allocator> Ledger<B> {
+    // Changes the line of a handle, where neither the handle's checks nor the change refuse.
+    #[tactic(auto, unfolding(crate::specs::Changes::Changed))]
+    fn edit<F: FnOnce(Line) -> Result<Line, Fault>>(
+        &mut self,
+        region: &[u8],
+        h: Handle,
+        change: F,
+    ) -> Result<(), Fault>
+        requires asks { Asks (state B.Allocator.meaning self.old region.now) h (F.pre change) }
+        requires keeps { Keeps (state B.Allocator.meaning self.old region.now) h (F.post change) }
+        ensures { Changed (state B.Allocator.meaning self.old region.now) h (F.post change) result (state B.Allocator.meaning self.new region.now) }
+    {
+        let spot = self.admits(region, h)?;
+        let new = change(spot.line)?;
+        self.register.book.put(spot.place, new);
+        Ok(())
+    }
+
     // Shortens the handle to n elements; to a greater length it does nothing.
     pub fn truncate(&mut self, region: &[u8], h: Handle, n: usize) -> Result<(), Fault>
         requires mutable { h.mutable ≡ true }
         ensures { Done (state B.Allocator.meaning self.old region.now) (Truncate h n) result (state B.Allocator.meaning self.new region.now) }
     {
-        let spot = self.admits(region, h)?;
-        self.book.put(spot.place, shortened(spot.line, n));
-        Ok(())
+        self.edit(region, h, |line| Ok(line.shortened(n)))
     }
 
     // Takes all elements away; the room stays.
     pub fn clear(&mut self, region: &[u8], h: Handle) -> Result<(), Fault>
         ensures { Done (state B.Allocator.meaning self.old region.now) (Clear h) result (state B.Allocator.meaning self.new region.now) }
     {
-        let spot = self.admits(region, h)?;
-        self.book.put(spot.place, with_len(spot.line, 0));
-        Ok(())
+        self.edit(region, h, |line| Ok(line.with_len(0)))
     }
 
     // Makes a mutable handle a shared one.
@@ -44,18 +60,14 @@ impl<B: Allocator> Ledger<B> {
         requires mutable { h.mutable ≡ true }
         ensures { Done (state B.Allocator.meaning self.old region.now) (Freeze h) result (state B.Allocator.meaning self.new region.now) }
     {
-        let spot = self.admits(region, h)?;
-        self.book.put(spot.place, frozen(spot.line));
-        Ok(())
+        self.edit(region, h, |line| Ok(line.frozen()))
     }
 
     // Makes the elements bytes.
     pub fn into_byte_buffer(&mut self, region: &[u8], h: Handle) -> Result<(), Fault>
         ensures { Done (state B.Allocator.meaning self.old region.now) (IntoBytes h) result (state B.Allocator.meaning self.new region.now) }
     {
-        let spot = self.admits(region, h)?;
-        self.book.put(spot.place, into_bytes(spot.line));
-        Ok(())
+        self.edit(region, h, |line| Ok(into_bytes(line)))
     }
 
     // Makes the bytes of a shared handle elements of a kind.
@@ -70,35 +82,46 @@ impl<B: Allocator> Ledger<B> {
         requires fair { SoundKind kind × IsAlignment claim }
         ensures { Done (state B.Allocator.meaning self.old region.now) (FromBytes h kind claim) result (state B.Allocator.meaning self.new region.now) }
     {
-        let spot = self.admits(region, h)?;
-        regroups(spot.line, kind, claim)?;
-        self.book
-            .put(spot.place, from_bytes(spot.line, kind, claim));
-        Ok(())
+        self.edit(region, h, |line| {
+            regroups(line, kind, claim)?;
+            Ok(from_bytes(line, kind, claim))
+        })
     }
 
     // Makes a shared handle that is alone on its backing a mutable one.
+    // Whether it is alone only the book tells, so the change is not one of the line alone.
     pub fn try_into_mut(&mut self, region: &[u8], h: Handle) -> Result<(), Fault>
         requires shared { h.mutable ≡ false }
         ensures { Done (state B.Allocator.meaning self.old region.now) (TryIntoMut h) result (state B.Allocator.meaning self.new region.now) }
     {
         let spot = self.admits(region, h)?;
-        unshared(self.book.shares(spot.line.backing, spot.line.serial))?;
+        unshared(
+            self.register
+                .book
+                .shares(spot.line.backing, spot.line.serial),
+        )?;
         let base = self.allocator.base();
-        self.book.put(spot.place, unfrozen(base, spot.line));
+        self.register
+            .book
+            .put(spot.place, unfrozen(base, spot.line));
         Ok(())
     }
 
     // Gives a shared handle another claim, where its start allows it.
-    pub fn ensure_aligned(&mut self, region: &[u8], h: Handle, claim: usize) -> Result<(), Fault>
+    pub fn ensure_aligned(
+        &mut self,
+        region: &[u8],
+        h: Handle,
+        claim: Alignment,
+    ) -> Result<(), Fault>
         requires shared { h.mutable ≡ false }
-        requires fair { IsAlignment claim }
-        ensures { Done (state B.Allocator.meaning self.old region.now) (EnsureAligned h claim) result (state B.Allocator.meaning self.new region.now) }
+        ensures { Done (state B.Allocator.meaning self.old region.now) (EnsureAligned h (bytes_of claim)) result (state B.Allocator.meaning self.new region.now) }
     {
-        let spot = self.admits(region, h)?;
-        stays_aligned(spot.line.kind, spot.line, claim)?;
-        self.book.put(spot.place, with_claim(spot.line, claim));
-        Ok(())
+        let claim = claim.as_usize();
+        self.edit(region, h, |line| {
+            stays_aligned(line.kind, line, claim)?;
+            Ok(line.with_claim(claim))
+        })
     }
 
     // Writes a value in place of an element.

@@ -9,8 +9,7 @@ ghost use Rattle.model.specs.Calls.{Take, Share};
 use crate::ledger::Ledger;
 use allocation::allocation::Allocator;
 use allocation::fault::Fault;
-use book::lines::{empty_line, shared_with, with_backing, with_serial};
-use model::line::Handle;
+use model::line::{Handle, Line};
 
 impl<B: Allocator> Ledger<B> {
     // A new handle gets everything that the mutable handle has, which is left empty.
@@ -19,12 +18,11 @@ impl<B: Allocator> Ledger<B> {
         ensures { Opens (state B.Allocator.meaning self.old region.now) (Take h) result (state B.Allocator.meaning self.new region.now) }
     {
         let spot = self.admits(region, h)?;
-        let serial = self.next_serial(region)?;
-        let left = empty_line(h.serial, spot.line.kind, spot.line.claim);
-        let taken = with_serial(spot.line, serial);
-        self.book.put(spot.place, left);
-        self.book.add(taken);
-        self.next += 1;
+        let serial = self.register.next_serial()?;
+        let left = Line::empty(h.serial, spot.line.kind, spot.line.claim);
+        let taken = spot.line.with_serial(serial);
+        self.register.book.put(spot.place, left);
+        self.register.add(taken);
         Ok(serial)
     }
 
@@ -34,12 +32,13 @@ impl<B: Allocator> Ledger<B> {
         ensures { Opens (state B.Allocator.meaning self.old region.now) (Share h) result (state B.Allocator.meaning self.new region.now) }
     {
         let spot = self.admits(region, h)?;
-        let serial = self.next_serial(region)?;
-        let first = with_backing(spot.line, shared_with(serial, spot.line.backing));
-        let second = with_serial(first, serial);
-        self.book.put(spot.place, first);
-        self.book.add(second);
-        self.next += 1;
+        let serial = self.register.next_serial()?;
+        let first = spot
+            .line
+            .with_backing(spot.line.backing.shared_with(serial));
+        let second = first.with_serial(serial);
+        self.register.book.put(spot.place, first);
+        self.register.add(second);
         Ok(serial)
     }
 }

@@ -5,7 +5,7 @@
 
 pub mod admitting;
 pub mod appending;
-pub mod copy_plan;
+pub mod claim;
 pub mod copying;
 pub mod editing;
 pub mod getting;
@@ -18,7 +18,9 @@ pub mod opening;
 pub mod plan;
 pub mod reading;
 pub mod refused;
+pub mod register;
 pub mod releasing;
 pub mod reserving;
 pub mod slicing;
 pub mod spot;
+pub mod terms;

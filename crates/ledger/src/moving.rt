@@ -14,7 +14,6 @@ use allocation::allocation::{Allocation, Allocator};
 use allocation::block::Block;
 use allocation::fault::Fault;
 use allocation::layout::Layout;
-use book::lines::block_of;
 use model::line::Line;
 use region::move_within;
 use sizes::{grown_place, grows_from, place_in};
@@ -24,7 +23,7 @@ pub fn copy_shown(region: &mut [u8], base: usize, line: Line, place: usize)
     requires { Copyable base line (length region.old) place (block_of line.backing) }
     ensures { region.new ≡ overwrite place (shown base line region.old) region.old }
 {
-    if let Some(_) = block_of(line.backing) {
+    if let Some(_) = line.backing.block() {
         move_within(region, line.start - base, place, line.len * line.kind.width);
     }
 }
@@ -47,7 +46,7 @@ pub fn take_new<B: Allocator>(
     let allocation = Allocation::allocate(allocator, region, layout)?;
     let place = place_in(base, line.claim, allocation.block);
     copy_shown(region, base, line, place);
-    give_back(allocator, region, block_of(line.backing))?;
+    give_back(allocator, region, line.backing.block())?;
     Ok(allocation.block)
 }
 
@@ -90,7 +89,7 @@ pub fn relocate<B: Allocator>(
         (λ f. (moving_granted (B.Allocator.meaning allocator.old) (asked layout) (block_of line.backing) ≡ false) × (f ≡ not_granted (asked layout))
         × (B.Allocator.meaning allocator.new ≡ B.Allocator.meaning allocator.old) × (region.new ≡ region.old)) }
 {
-    match grows_from(allocator.copies(), layout.size(), block_of(line.backing)) {
+    match grows_from(allocator.copies(), layout.size(), line.backing.block()) {
         Some(block) => grow_into(allocator, region, line, block, layout),
         None => take_new(allocator, region, line, layout),
     }

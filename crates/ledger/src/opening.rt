@@ -10,10 +10,9 @@ ghost use Rattle.model.specs.Runs.{New};
 
 use crate::ledger::Ledger;
 use crate::refused::Refused;
+use crate::register::Register;
 use allocation::allocation::Allocator;
 use allocation::fault::{Fault, Refusal};
-use book::book::Book;
-use held::held::Held;
 use model::line::Line;
 
 // Whether an address and a length are those of a region that a store serves.
@@ -47,10 +46,9 @@ impl<B: Allocator> Ledger<B> {
             });
         }
         Ok(Ledger {
-            allocator: Held::new(allocator),
+            allocator,
             number,
-            next: 1,
-            book: Book::new(),
+            register: Register::new(),
         })
     }
 
@@ -63,30 +61,30 @@ impl<B: Allocator> Ledger<B> {
 
     // The lines of the live handles, oldest first.
     pub fn lines(&self) -> &[Line]
-        ensures { result.now ≡ lines_of self.now.book }
+        ensures { result.now ≡ lines_of self.now.register.book }
     {
-        self.book.as_slice()
+        self.register.book.as_slice()
     }
 
     // The allocator, lent for questions.
     pub fn allocator(&self) -> &B
-        ensures { result.now ≡ self.now.allocator.allocator }
+        ensures { result.now ≡ self.now.allocator }
     {
-        self.allocator.get()
+        &self.allocator
     }
 
     // Whether no handle is live.
     pub fn is_idle(&self) -> bool
-        ensures { result ≡ (length (lines_of self.now.book) == 0) }
+        ensures { result ≡ (length (lines_of self.now.register.book) == 0) }
     {
-        self.book.as_slice().is_empty()
+        self.register.book.as_slice().is_empty()
     }
 
     // The allocator, where no handle is live; else the store comes back.
     pub fn into_allocator(self) -> Result<B, Ledger<B>>
         ensures { MatchResult result
-            (λ b. (lines_of self.book ≡ []) × (b ≡ self.allocator.allocator))
-            (λ s. (lines_of self.book ≢ []) × (s ≡ self)) }
+            (λ b. (lines_of self.register.book ≡ []) × (b ≡ self.allocator))
+            (λ s. (lines_of self.register.book ≢ []) × (s ≡ self)) }
     {
         if !self.is_idle() {
             return Err(self);
@@ -94,10 +92,9 @@ impl<B: Allocator> Ledger<B> {
         let Ledger {
             allocator,
             number: _,
-            next: _,
-            book,
+            register,
         } = self;
-        drop(book);
-        Ok(allocator.into_inner())
+        drop(register);
+        Ok(allocator)
     }
 }

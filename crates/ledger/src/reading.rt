@@ -30,10 +30,7 @@ pub fn shown_in(region: &[u8], base: usize, line: Line) -> &[u8]
 impl<B: Allocator> Ledger<B> {
     // The line of a handle: its length, capacity, claim and start.
     pub fn read(&self, region: &[u8], h: Handle) -> Result<Line, Fault>
-        ensures { MatchResult result
-            (λ l. (refusal (checks (state B.Allocator.meaning self.now region.now) (length region.now) (Read h)) ≡ None)
-            × (l ≡ line (state B.Allocator.meaning self.now region.now) h))
-            (λ f. refusal (checks (state B.Allocator.meaning self.now region.now) (length region.now) (Read h)) ≡ Some f) }
+        ensures { Tells (state B.Allocator.meaning self.now region.now) h (line (state B.Allocator.meaning self.now region.now) h) result }
     {
         let spot = self.admits(region, h)?;
         Ok(spot.line)
@@ -43,40 +40,35 @@ impl<B: Allocator> Ledger<B> {
     pub fn len(&self, region: &[u8], h: Handle) -> Result<usize, Fault>
         ensures { Tells (state B.Allocator.meaning self.now region.now) h (len_of (state B.Allocator.meaning self.now region.now) h) result }
     {
-        let line = self.read(region, h)?;
-        Ok(line.len)
+        self.read(region, h).map(|line| line.len)
     }
 
     // Whether a handle has no element.
     pub fn is_empty(&self, region: &[u8], h: Handle) -> Result<bool, Fault>
         ensures { Tells (state B.Allocator.meaning self.now region.now) h (is_empty (state B.Allocator.meaning self.now region.now) h) result }
     {
-        let line = self.read(region, h)?;
-        Ok(line.len == 0)
+        self.read(region, h).map(|line| line.len == 0)
     }
 
     // How many elements a handle has room for; 0 of a shared one.
     pub fn capacity(&self, region: &[u8], h: Handle) -> Result<usize, Fault>
         ensures { Tells (state B.Allocator.meaning self.now region.now) h (capacity_of (state B.Allocator.meaning self.now region.now) h) result }
     {
-        let line = self.read(region, h)?;
-        Ok(line.capacity)
+        self.read(region, h).map(|line| line.capacity)
     }
 
     // The claim of a handle.
     pub fn alignment(&self, region: &[u8], h: Handle) -> Result<usize, Fault>
         ensures { Tells (state B.Allocator.meaning self.now region.now) h (alignment_of (state B.Allocator.meaning self.now region.now) h) result }
     {
-        let line = self.read(region, h)?;
-        Ok(line.claim)
+        self.read(region, h).map(|line| line.claim)
     }
 
     // Whether the start of a handle is a multiple of an alignment.
     pub fn is_aligned(&self, region: &[u8], h: Handle, claim: usize) -> Result<bool, Fault>
         ensures { Tells (state B.Allocator.meaning self.now region.now) h (is_aligned_to (state B.Allocator.meaning self.now region.now) h claim) result }
     {
-        let line = self.read(region, h)?;
-        Ok(is_aligned(line, claim))
+        self.read(region, h).map(|line| is_aligned(line, claim))
     }
 
     // The bytes of a handle's elements: the part of the region that it shows.

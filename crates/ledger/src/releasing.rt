@@ -9,7 +9,6 @@ use crate::giving::give_back;
 use crate::ledger::Ledger;
 use allocation::allocation::Allocator;
 use allocation::fault::Fault;
-use book::lines::block_left;
 use model::line::Handle;
 
 impl<B: Allocator> Ledger<B> {
@@ -18,11 +17,12 @@ impl<B: Allocator> Ledger<B> {
         ensures { Done (state B.Allocator.meaning self.old region.now) (Release h) result (state B.Allocator.meaning self.new region.now) }
     {
         let spot = self.admits(region, h)?;
-        let shared = self.book.shares(spot.line.backing, spot.line.serial);
-        let given = give_back(&mut self.allocator, region, block_left(shared, spot.line));
-        self.allocator.tell();
-        given?;
-        self.book.end(spot.place);
+        let shared = self
+            .register
+            .book
+            .shares(spot.line.backing, spot.line.serial);
+        give_back(&mut self.allocator, region, spot.line.block_left(shared))?;
+        self.register.book.end(spot.place);
         Ok(())
     }
 }

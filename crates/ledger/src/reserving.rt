@@ -2,7 +2,6 @@
 // Room for more elements.
 // Works over `reserve` of src/buffer_mut.rs of vortex-buffer 0.90.0.
 ghost use Rattle.std.specs.Prelude.{◌≡◌, true};
-ghost use Rattle.held.specs.Whole.{parts};
 ghost use Rattle.ledger.specs.Moving.{Reserved};
 ghost use Rattle.ledger.specs.Results.{Done};
 ghost use Rattle.ledger.specs.View.{state};
@@ -13,7 +12,6 @@ use crate::moving::relocate;
 use crate::spot::Spot;
 use allocation::allocation::Allocator;
 use allocation::fault::Fault;
-use book::lines::relocated;
 use checks::room_for;
 use model::line::Handle;
 use sizes::{has_room, round_up};
@@ -22,7 +20,7 @@ impl<B: Allocator> Ledger<B> {
     // Makes room for more elements; then the handle's line as it is now.
     pub fn make_room(&mut self, region: &mut [u8], h: Handle, more: usize) -> Result<Spot, Fault>
         requires mutable { h.mutable ≡ true }
-        ensures { Reserved (state B.Allocator.meaning self.old region.old) (parts self.old.allocator) h more result (state B.Allocator.meaning self.new region.new) (parts self.new.allocator) }
+        ensures { Reserved (state B.Allocator.meaning self.old region.old) h more result (state B.Allocator.meaning self.new region.new) }
     {
         let spot = self.admits(region, h)?;
         if has_room(spot.line, more) {
@@ -30,13 +28,11 @@ impl<B: Allocator> Ledger<B> {
         }
         let room = room_for(spot.line, more)?;
         let base = self.allocator.base();
-        let moved_to = relocate(&mut self.allocator, region, spot.line, room.layout);
-        self.allocator.tell();
-        let block = moved_to?;
+        let block = relocate(&mut self.allocator, region, spot.line, room.layout)?;
         let start = round_up(base + block.place, spot.line.claim);
         let capacity = room.bytes / spot.line.kind.width;
-        let line = relocated(spot.line, block, start, capacity);
-        self.book.put(spot.place, line);
+        let line = spot.line.relocated(block, start, capacity);
+        self.register.book.put(spot.place, line);
         Ok(Spot {
             place: spot.place,
             line,

@@ -2,37 +2,55 @@
 // Slices of a shared handle.
 // Works over `slice`, `slice_unaligned` and `slice_with_alignment` of src/buffer.rs of vortex-buffer 0.90.0.
 ghost use Rattle.std.specs.Prelude.{◌≡◌, false};
-ghost use Rattle.allocation.specs.Alignments.{IsAlignment};
+ghost use Rattle.allocation.specs.Asked.{bytes_of};
+ghost use Rattle.ledger.specs.Claims.{claim_of};
 ghost use Rattle.ledger.specs.Results.{Opens};
 ghost use Rattle.ledger.specs.View.{state};
 ghost use Rattle.model.specs.Calls.{Slice, Given, Inherited, OfKind};
 
+use crate::claim::Claim;
 use crate::ledger::Ledger;
+use allocation::alignment::Alignment;
 use allocation::allocation::Allocator;
 use allocation::fault::Fault;
 use checks::slices;
-use model::line::{Bound, Handle};
+use model::line::Handle;
 use sizes::slice_line;
+use std::ops::Bound;
 
 impl<B: Allocator> Ledger<B> {
+    // A new handle on a range of the elements, with a claim of its own.
+    pub fn slice_claiming(
+        &mut self,
+        region: &[u8],
+        h: Handle,
+        first: Bound<usize>,
+        last: Bound<usize>,
+        claim: Claim,
+    ) -> Result<u32, Fault>
+        requires shared { h.mutable ≡ false }
+        ensures { Opens (state B.Allocator.meaning self.old region.now) (Slice h first last (claim_of claim)) result (state B.Allocator.meaning self.new region.now) }
+    {
+        let spot = self.admits(region, h)?;
+        let serial = self.register.next_serial()?;
+        let claim = claim.of(spot.line);
+        let range = slices(spot.line, first, last, claim)?;
+        self.register.add(slice_line(serial, spot.line, range.start, range.end, claim));
+        Ok(serial)
+    }
+
     // A new handle on a range of the elements, with the claim of the handle.
     pub fn slice(
         &mut self,
         region: &[u8],
         h: Handle,
-        first: Bound,
-        last: Bound,
+        first: Bound<usize>,
+        last: Bound<usize>,
     ) -> Result<u32, Fault>
         requires shared { h.mutable ≡ false }
         ensures { Opens (state B.Allocator.meaning self.old region.now) (Slice h first last Inherited) result (state B.Allocator.meaning self.new region.now) }
     {
-        let spot = self.admits(region, h)?;
-        let serial = self.next_serial(region)?;
-        let claim = spot.line.claim;
-        let range = slices(spot.line, first, last, claim)?;
-        self.book.add(slice_line(serial, spot.line, range.begin, range.end, claim));
-        self.next += 1;
-        Ok(serial)
+        self.slice_claiming(region, h, first, last, Claim::Inherited)
     }
 
     // The same, with the alignment of the kind as its claim.
@@ -40,19 +58,13 @@ impl<B: Allocator> Ledger<B> {
         &mut self,
         region: &[u8],
         h: Handle,
-        first: Bound,
-        last: Bound,
+        first: Bound<usize>,
+        last: Bound<usize>,
     ) -> Result<u32, Fault>
         requires shared { h.mutable ≡ false }
         ensures { Opens (state B.Allocator.meaning self.old region.now) (Slice h first last OfKind) result (state B.Allocator.meaning self.new region.now) }
     {
-        let spot = self.admits(region, h)?;
-        let serial = self.next_serial(region)?;
-        let claim = spot.line.kind.align;
-        let range = slices(spot.line, first, last, claim)?;
-        self.book.add(slice_line(serial, spot.line, range.begin, range.end, claim));
-        self.next += 1;
-        Ok(serial)
+        self.slice_claiming(region, h, first, last, Claim::OfKind)
     }
 
     // The same, with another claim.
@@ -60,19 +72,13 @@ impl<B: Allocator> Ledger<B> {
         &mut self,
         region: &[u8],
         h: Handle,
-        first: Bound,
-        last: Bound,
-        claim: usize,
+        first: Bound<usize>,
+        last: Bound<usize>,
+        claim: Alignment,
     ) -> Result<u32, Fault>
         requires shared { h.mutable ≡ false }
-        requires fair { IsAlignment claim }
-        ensures { Opens (state B.Allocator.meaning self.old region.now) (Slice h first last (Given claim)) result (state B.Allocator.meaning self.new region.now) }
+        ensures { Opens (state B.Allocator.meaning self.old region.now) (Slice h first last (Given (bytes_of claim))) result (state B.Allocator.meaning self.new region.now) }
     {
-        let spot = self.admits(region, h)?;
-        let serial = self.next_serial(region)?;
-        let range = slices(spot.line, first, last, claim)?;
-        self.book.add(slice_line(serial, spot.line, range.begin, range.end, claim));
-        self.next += 1;
-        Ok(serial)
+        self.slice_claiming(region, h, first, last, Claim::Given(claim))
     }
 }

@@ -3,7 +3,7 @@ use Rattle.std.proofs.Common.{◌≡◌, ℕ, ◌+◌, ◌-◌, ◌*◌, ◌/◌
 use lib.ListN.{length-replicate}
 use Rattle.std.proofs.lemmas.Bool.{le-leb, eqb-true, not-false, leb-false, ltb-true, ltb-false}
 use Rattle.allocation.proofs.Rounding.{round_up_high, round_up_low}
-use Rattle.model.specs.declared.line.Bound.{Bound}
+use Rattle.std.specs.declared.ops.Bound.{Bound}
 use Rattle.model.specs.declared.line.Handle.{Handle}
 use Rattle.model.specs.declared.line.Line.{Line}
 use Rattle.model.specs.Book.{State, block_of, line, look_up, serial_of, shared_by}
@@ -53,7 +53,7 @@ module _ (st : State) (tb : Table) (inv : Inv st tb) (each : LinesKeep st) (st' 
   claim_one h Inherited s = alignment_one (kept_line st each h).alignment
   claim_one h OfKind s = alignment_one (kept_line st each h).kind.align
 
-  keep_slice : (h : Handle) (b e : Bound) (a : Claim) (g : Grant) → Held st h → h.mutable ≡ false → 1 ≤ claimed a (line st h) → begin b ≤ finish e (line st h).len → finish e (line st h).len ≤ (line st h).len → Does st (Slice h b e a) g st' → Inv st' (spell tb (Slice h b e a) g)
+  keep_slice : (h : Handle) (b e : Bound ℕ) (a : Claim) (g : Grant) → Held st h → h.mutable ≡ false → 1 ≤ claimed a (line st h) → begin b ≤ finish e (line st h).len → finish e (line st h).len ≤ (line st h).len → Does st (Slice h b e a) g st' → Inv st' (spell tb (Slice h b e a) g)
   keep_slice h b e a g k mut one le ge (p, q) =
       subst (λ z. Inv z (spell tb (Slice h b e a) g)) (sym q)
       (subst (λ z. Inv (add_line st (slice_line (ltb (begin b) (finish e l.len)) st l (begin b) (finish e l.len - begin b) (claimed a (line st h)))) z) (sym table) (go (ltb (begin b) (finish e l.len)) refl))

@@ -1,7 +1,7 @@
 -- Empty backings: their numbers are serials that were given out, and a mutable handle is alone on its own.
-use Rattle.std.proofs.Common.{◌≡◌, ℕ, ◌+◌, ◌-◌, ◌<◌, ◌≤◌, max, Bool, true, false, cond, not, eqb, ltb, leb, ◌⊎◌, List, [], ◌∷◌, ◌++◌, length, Some, None, Option, sym, refl, ap, ◌∙◌, subst, inl, inr, ⊎_elim, true≢false, arith}
+use Rattle.std.proofs.Common.{◌≡◌, ℕ, ◌+◌, ◌-◌, ◌≤◌, max, Bool, true, false, not, ltb, leb, ◌⊎◌, List, [], ◌∷◌, ◌++◌, length, Some, None, Option, sym, refl, ap, ◌∙◌, subst, inl, inr, ⊎_elim, true≢false, arith}
 use mathlib.Core.Bool.{false≢true}
-use Rattle.std.proofs.lemmas.Bool.{not-true, cases_eq, eqb-true, eqb-false, eq-eqb, ne_eqb, not-false}
+use Rattle.std.proofs.lemmas.Bool.{not-true, cases_eq, eqb-true, eq-eqb, not-false}
 use Rattle.allocation.specs.declared.block.Block.{Block}
 use Rattle.allocation.specs.Meaning.{Meaning}
 use Rattle.model.specs.declared.line.Backing.{Backing}
@@ -25,55 +25,55 @@ use Rattle.model.proofs.Moves.{Only, only_add, only_end, only_put}
 use Rattle.model.proofs.Reserving.{reserved}
 use Rattle.model.proofs.Shapes.{never, pin}
 
--- the number of an empty backing; 0 for any other
+-- one more than the number of an empty backing that has one; 0 for any other
 abbrev pub number_in : Backing → ℕ
 number_in Unbacked = 0
-number_in (Empty n) = n
+number_in (Empty None) = 0
+number_in (Empty (Some n)) = n + 1
 number_in (Owned b) = 0
 
 pub record Named (st : State) : Type 0 where
-  pub below : (s : ℕ) (l : Line) → look_up s st ≡ Some l → number_in l.backing < st.next
+  pub below : (s : ℕ) (l : Line) → look_up s st ≡ Some l → number_in l.backing ≤ st.next
   pub alone : (s t : ℕ) (l m : Line) → (t ≡ s → ⊥) → look_up s st ≡ Some l → look_up t st ≡ Some m → 1 ≤ number_in l.backing → number_in l.backing ≡ number_in m.backing → l.mutable ≡ false
 
 -- one number, one backing
 numbers_one : (b c : Backing) → 1 ≤ number_in b → number_in b ≡ number_in c → one_backing b c ≡ true
 numbers_one Unbacked c h e = absurd (omega arith)
 numbers_one (Owned b) c h e = absurd (omega arith)
-numbers_one (Empty m) Unbacked h e = absurd (omega (arith, h, e))
-numbers_one (Empty m) (Owned b) h e = absurd (omega (arith, h, e))
-numbers_one (Empty m) (Empty n) h e = rw (ne_eqb m 0 (λ q. omega (arith, h, q))) (eq-eqb m n e)
+numbers_one (Empty None) c h e = absurd (omega (arith, h))
+numbers_one (Empty (Some m)) Unbacked h e = absurd (omega (arith, h, e))
+numbers_one (Empty (Some m)) (Owned b) h e = absurd (omega (arith, h, e))
+numbers_one (Empty (Some m)) (Empty None) h e = absurd (omega (arith, h, e))
+numbers_one (Empty (Some m)) (Empty (Some n)) h e = eq-eqb m n (omega (arith, e))
 
 pub one_numbers : (b c : Backing) → one_backing b c ≡ true → ((d : Block) × (block_of b ≡ Some d) × (block_of c ≡ Some d)) ⊎ ((1 ≤ number_in b) × (number_in b ≡ number_in c))
 unfolding block_of
 one_numbers Unbacked c e = absurd (false≢true e)
-one_numbers (Empty m) Unbacked e = absurd (false≢true e)
-one_numbers (Empty m) (Owned b) e = absurd (false≢true e)
 one_numbers (Owned b) Unbacked e = absurd (false≢true e)
 one_numbers (Owned b) (Empty n) e = absurd (false≢true e)
 one_numbers (Owned b) (Owned c) e = inl (b, refl, ap {B = Option Block} Some (sym (same_block_eq b c e)))
-one_numbers (Empty m) (Empty n) e = inr (go (eqb m 0) refl e)
-  where
-    go : (z : Bool) → eqb m 0 ≡ z → cond z false (eqb m n) ≡ true → (1 ≤ m) × (m ≡ n)
-    go true q f = absurd (false≢true f)
-    go false q f = (let d = eqb-false m 0 q in ⊎_elim (λ (k : m < 1). absurd (d (omega arith))) (λ (k : 1 ≤ m). k) (Rattle.std.proofs.lemmas.Bool.cases_lt m 1), eqb-true m n f)
+one_numbers (Empty None) Unbacked e = absurd (false≢true e)
+one_numbers (Empty None) (Owned b) e = absurd (false≢true e)
+one_numbers (Empty None) (Empty n) e = absurd (false≢true e)
+one_numbers (Empty (Some m)) Unbacked e = absurd (false≢true e)
+one_numbers (Empty (Some m)) (Owned b) e = absurd (false≢true e)
+one_numbers (Empty (Some m)) (Empty None) e = absurd (false≢true e)
+one_numbers (Empty (Some m)) (Empty (Some n)) e = inr (omega arith, ap (λ k. k + 1) (eqb-true m n e))
 
-number_shared : (s : ℕ) (b : Backing) → (number_in (shared_with s b) ≡ number_in b) ⊎ ((number_in b ≡ 0) × (number_in (shared_with s b) ≡ s))
+number_shared : (s : ℕ) (b : Backing) → (number_in (shared_with s b) ≡ number_in b) ⊎ ((number_in b ≡ 0) × (number_in (shared_with s b) ≡ s + 1))
 number_shared s Unbacked = inl refl
 number_shared s (Owned b) = inl refl
-number_shared s (Empty n) = go (eqb n 0) refl
-  where
-    go : (z : Bool) → eqb n 0 ≡ z → (cond z s n ≡ n) ⊎ ((n ≡ 0) × (cond z s n ≡ s))
-    go true q = inr (eqb-true n 0 q, refl)
-    go false q = inl refl
+number_shared s (Empty None) = inr (refl, refl)
+number_shared s (Empty (Some n)) = inl refl
 
 -- one line changes
 module _ (st st' : State) (s : ℕ) (new : Option Line) (k : Named st) (more : st.next ≤ st'.next) (same : (t : ℕ) → (t ≡ s → ⊥) → look_up t st' ≡ look_up t st) (at : look_up s st' ≡ new)
-    (low : (l : Line) → new ≡ Some l → number_in l.backing < st'.next)
+    (low : (l : Line) → new ≡ Some l → number_in l.backing ≤ st'.next)
     (pair : (l : Line) (t : ℕ) (m : Line) → new ≡ Some l → (t ≡ s → ⊥) → look_up t st ≡ Some m → 1 ≤ number_in l.backing → number_in l.backing ≡ number_in m.backing → (l.mutable ≡ false) × (m.mutable ≡ false)) where
   pub named_at : Named st'
   named_at = record { below = λ t l e. below t l e (cases_eq t s); alone = λ a t l m d e f h q. alone a t l m d e f h q (cases_eq a s) (cases_eq t s) }
     where
-      below : (t : ℕ) (l : Line) → look_up t st' ≡ Some l → (t ≡ s) ⊎ (t ≡ s → ⊥) → number_in l.backing < st'.next
+      below : (t : ℕ) (l : Line) → look_up t st' ≡ Some l → (t ≡ s) ⊎ (t ≡ s → ⊥) → number_in l.backing ≤ st'.next
       below t l e (inl q) = low l (sym at ∙ ap (λ z. look_up z st') (sym q) ∙ e)
       below t l e (inr d) = omega (arith, k.below t l (sym (same t d) ∙ e), more)
 
@@ -86,7 +86,7 @@ module _ (st st' : State) (s : ℕ) (new : Option Line) (k : Named st) (more : s
 -- the same book
 named_same : (st st' : State) → st'.next ≡ st.next → st'.lines ≡ st.lines → Named st → Named st'
 named_same st st' n l k = record {
-  below = λ s x e. subst (λ z. number_in x.backing < z) (sym n) (k.below s x (sym (ap (find serial_of s) l) ∙ e));
+  below = λ s x e. subst (λ z. number_in x.backing ≤ z) (sym n) (k.below s x (sym (ap (find serial_of s) l) ∙ e));
   alone = λ s t x y d e f h q. k.alone s t x y d (sym (ap (find serial_of s) l) ∙ e) (sym (ap (find serial_of t) l) ∙ f) h q;
 }
 
@@ -95,12 +95,12 @@ module _ (st : State) (tb : Table) (inv : Inv st tb) (each : LinesKeep st) (k : 
   both : (s t : ℕ) (l m : Line) → (t ≡ s → ⊥) → look_up s st ≡ Some l → look_up t st ≡ Some m → 1 ≤ number_in l.backing → number_in l.backing ≡ number_in m.backing → (l.mutable ≡ false) × (m.mutable ≡ false)
   both s t l m d e f h q = (k.alone s t l m d e f h q, k.alone t s m l (λ z. d (sym z)) f e (omega (arith, h, q)) (sym q))
 
-  put_named : (s : ℕ) (l l' : Line) → look_up s st ≡ Some l → l'.serial ≡ s → number_in l'.backing < st.next
+  put_named : (s : ℕ) (l l' : Line) → look_up s st ≡ Some l → l'.serial ≡ s → number_in l'.backing ≤ st.next
       → ((t : ℕ) (m : Line) → (t ≡ s → ⊥) → look_up t st ≡ Some m → 1 ≤ number_in l'.backing → number_in l'.backing ≡ number_in m.backing → (l'.mutable ≡ false) × (m.mutable ≡ false)) → Named (put_line st l')
   unfolding put_line
   put_named s l l' e q low pair =
       let only = only_put st.next st.lines s l l' inv.order e q in
-      named_at st (put_line st l') s (Some l') k (omega arith) only.same only.at (λ x z. pin refl (λ y. number_in y.backing < st.next) low x z)
+      named_at st (put_line st l') s (Some l') k (omega arith) only.same only.at (λ x z. pin refl (λ y. number_in y.backing ≤ st.next) low x z)
       (λ x t m z d f h w. pin refl (λ y. 1 ≤ number_in y.backing → number_in y.backing ≡ number_in m.backing → (y.mutable ≡ false) × (m.mutable ≡ false)) (pair t m d f) x z h w)
 
   -- the backing stays, and a shared line stays shared
@@ -116,7 +116,7 @@ module _ (st : State) (tb : Table) (inv : Inv st tb) (each : LinesKeep st) (k : 
   unfolding add_line
   add_named l q low pair =
       let only = only_add st.next st.lines l inv.order q in
-      named_at st (add_line st l) st.next (Some l) k (omega arith) only.same only.at (λ x z. pin refl (λ y. number_in y.backing < st.next + 1) (omega arith) x z)
+      named_at st (add_line st l) st.next (Some l) k (omega arith) only.same only.at (λ x z. pin refl (λ y. number_in y.backing ≤ st.next + 1) (omega arith) x z)
       (λ x t m z d f h w. pin refl (λ y. 1 ≤ number_in y.backing → number_in y.backing ≡ number_in m.backing → (y.mutable ≡ false) × (m.mutable ≡ false)) (pair t m f) x z h w)
 
   zero-add : (l : Line) → l.serial ≡ st.next → number_in l.backing ≡ 0 → Named (add_line st l)
@@ -207,7 +207,7 @@ module _ (st : State) (tb : Table) (inv : Inv st tb) (each : LinesKeep st) (k : 
   unfolding add_line put_line
   taken_named s l l₀ l' e q zero q' n mut =
       named_at (put_line st l₀) (add_line (put_line st l₀) l') st.next (Some l') (zero_put st tb inv each k s l l₀ e q zero) (omega arith) added.same added.at
-      (λ x z. pin refl (λ y. number_in y.backing < st.next + 1) (omega (arith, n, k.below s l e)) x z)
+      (λ x z. pin refl (λ y. number_in y.backing ≤ st.next + 1) (omega (arith, n, k.below s l e)) x z)
       (λ x t m z d f h w. pin refl (λ y. 1 ≤ number_in y.backing → number_in y.backing ≡ number_in m.backing → (y.mutable ≡ false) × (m.mutable ≡ false)) (λ h w. other t m f h w (cases_eq t s)) x z h w)
     where
       put : Only st.next st.lines (update serial_of l₀.serial (λ _. l₀) st.lines) s (Some l₀)
@@ -228,7 +228,7 @@ module _ (st : State) (tb : Table) (inv : Inv st tb) (each : LinesKeep st) (k : 
   unfolding add_line put_line
   shared_named s l e q mut =
       named_at between (add_line (put_line st l₁) l₂) st.next (Some l₂) named (omega arith) added.same added.at
-      (λ x z. pin refl (λ y. number_in y.backing < st.next + 1) (named.below s l₁ put.at) x z)
+      (λ x z. pin refl (λ y. number_in y.backing ≤ st.next + 1) (named.below s l₁ put.at) x z)
       (λ x t m z d f h w. pin refl (λ y. 1 ≤ number_in y.backing → number_in y.backing ≡ number_in m.backing → (y.mutable ≡ false) × (m.mutable ≡ false)) (λ h w. (mut, other t m f h w (cases_eq t s))) x z h w)
     where
       l₁ : Line
@@ -246,14 +246,14 @@ module _ (st : State) (tb : Table) (inv : Inv st tb) (each : LinesKeep st) (k : 
       added : Only (st.next + 1) (update serial_of l.serial (λ _. l₁) st.lines) (update serial_of l.serial (λ _. l₁) st.lines ++ (l₂ ∷ [])) st.next (Some l₂)
       added = only_add st.next (update serial_of l.serial (λ _. l₁) st.lines) l₂ put.order refl
 
-      low : number_in l₁.backing < st.next + 1
+      low : number_in l₁.backing ≤ st.next + 1
       low = ⊎_elim (λ n. omega (arith, n, k.below s l e)) (λ n. omega (arith, n.1)) (number_shared st.next l.backing)
 
       pairs : (t : ℕ) (m : Line) → (t ≡ s → ⊥) → look_up t st ≡ Some m → 1 ≤ number_in l₁.backing → number_in l₁.backing ≡ number_in m.backing → (l₁.mutable ≡ false) × (m.mutable ≡ false)
       pairs t m d f h w = ⊎_elim (λ n. both st tb inv each k s t l m d e f (omega (arith, h, n)) (sym n ∙ w)) (λ n. absurd (omega (arith, n.1, w, k.below t m f))) (number_shared st.next l.backing)
 
       named : Named between
-      named = named_at st between s (Some l₁) k (omega arith) put.same put.at (λ x z. pin refl (λ y. number_in y.backing < st.next + 1) low x z)
+      named = named_at st between s (Some l₁) k (omega arith) put.same put.at (λ x z. pin refl (λ y. number_in y.backing ≤ st.next + 1) low x z)
           (λ x t m z d f h w. pin refl (λ y. 1 ≤ number_in y.backing → number_in y.backing ≡ number_in m.backing → (y.mutable ≡ false) × (m.mutable ≡ false)) (pairs t m d f) x z h w)
 
       other : (t : ℕ) (m : Line) → look_up t between ≡ Some m → 1 ≤ number_in l₁.backing → number_in l₁.backing ≡ number_in m.backing → (t ≡ s) ⊎ (t ≡ s → ⊥) → m.mutable ≡ false

@@ -31,7 +31,7 @@ off_unbacked : block_of Unbacked ≡ None
 unfolding block_of
 off_unbacked = refl
 
-off_empty : (g : ℕ) → block_of (Empty g) ≡ None
+off_empty : (g : Option ℕ) → block_of (Empty g) ≡ None
 unfolding block_of
 off_empty g = refl
 

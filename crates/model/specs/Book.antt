@@ -37,11 +37,17 @@ block_of (Owned b) = Some b
 abbrev pub usable : Block → ℕ
 usable b = b.size
 
+-- are there two numbers, and are they equal?
+abbrev pub same_number : Option ℕ → Option ℕ → Bool
+same_number None n = false
+same_number (Some m) None = false
+same_number (Some m) (Some n) = m == n
+
 -- are two handles with these backings on one backing?
 abbrev pub one_backing : Backing → Backing → Bool
 one_backing Unbacked c = false
 one_backing (Empty m) Unbacked = false
-one_backing (Empty m) (Empty n) = cond (m == 0) false (m == n)
+one_backing (Empty m) (Empty n) = same_number m n
 one_backing (Empty m) (Owned c) = false
 one_backing (Owned b) Unbacked = false
 one_backing (Owned b) (Empty n) = false

@@ -2,7 +2,7 @@
 use Rattle.std.specs.Prelude.{ℕ, Bool, true, false, List, [], ◌∷◌, replicate, Some, None, Option}
 use Rattle.allocation.specs.declared.block.Block.{Block}
 use Rattle.allocation.specs.declared.fault.Fault.{Fault}
-use Rattle.model.specs.declared.line.Bound.{Bound}
+use Rattle.std.specs.declared.ops.Bound.{Bound}
 use Rattle.model.specs.declared.line.Handle.{Handle}
 use Rattle.model.specs.declared.line.Kind.{Kind}
 
@@ -30,7 +30,7 @@ pub data Call : Type 0 where
   IntoBytes : Handle → Call
   FromBytes : Handle → Kind → ℕ → Call
   Share : Handle → Call
-  Slice : Handle → Bound → Bound → Claim → Call
+  Slice : Handle → Bound ℕ → Bound ℕ → Claim → Call
   TryIntoMut : Handle → Call
   IntoMut : Handle → Call
   Aligned : Handle → ℕ → Call
@@ -156,15 +156,15 @@ abbrev pub share : Handle → Call
 share h = Share h
 
 -- a range, at the claim of its parent
-abbrev pub slice : Handle → Bound → Bound → Call
+abbrev pub slice : Handle → Bound ℕ → Bound ℕ → Call
 slice h first last = Slice h first last Inherited
 
 -- a range, at the alignment of its kind
-abbrev pub slice_unaligned : Handle → Bound → Bound → Call
+abbrev pub slice_unaligned : Handle → Bound ℕ → Bound ℕ → Call
 slice_unaligned h first last = Slice h first last OfKind
 
 -- a range, at the claim a
-abbrev pub slice_with_alignment : Handle → Bound → Bound → ℕ → Call
+abbrev pub slice_with_alignment : Handle → Bound ℕ → Bound ℕ → ℕ → Call
 slice_with_alignment h first last a = Slice h first last (Given a)
 
 -- the shared handle becomes mutable where it is alone on its backing

@@ -8,8 +8,10 @@ use Rattle.allocation.specs.declared.fault.Layer.TheVariants.{Allocator}
 use Rattle.allocation.specs.declared.fault.Refusal.TheVariants.{BackingShared, BelowKindAlignment, BoundOverflow, IndexBeyondLength, LayoutTooLarge, NoHandleLeft, NotGranted, OffsetUnaligned, Overflow, PartialElement, RangeBeyondLength, RangeReversed, RegionDiffers, StartUnaligned, UnknownHandle}
 use Rattle.allocation.specs.Alignments.{greatest_size}
 use Rattle.allocation.specs.Meaning.{Meaning}
-use Rattle.model.specs.declared.line.Bound.{Bound}
-use Rattle.model.specs.declared.line.Bound.TheVariants.{Excluded, Included, Unbounded}
+use Rattle.std.specs.declared.ops.Bound.{Bound}
+use Rattle.std.specs.declared.ops.Bound.TheVariants.{Excluded, Included, Unbounded}
+-- the first element of a range, and the one behind its last
+pub use Rattle.std.specs.Range.Bound.{start_index as begin, end_index as finish}
 use Rattle.model.specs.declared.line.Handle.{Handle}
 use Rattle.model.specs.declared.line.Line.{Line}
 use Rattle.model.specs.Book.{State, block_of, known, line, line_limit, serial_limit, shared_by, usable}
@@ -135,26 +137,14 @@ reserve_checks meaning l more =
     ∷ (not (enough l more) && not (room_granted meaning l more), not_granted (wanted_request l more))
     ∷ []
 
--- the first element of a range, and the one behind its last
-abbrev pub begin : Bound → ℕ
-begin (Included n) = n
-begin (Excluded n) = n + 1
-begin Unbounded = 0
-
--- the element behind the last of a range over len elements
-abbrev pub finish : Bound → ℕ → ℕ
-finish (Included n) len = n + 1
-finish (Excluded n) len = n
-finish Unbounded len = len
-
 -- does the first bound pass 64 bits?
-abbrev pub begin_overflows : Bound → Bool
+abbrev pub begin_overflows : Bound ℕ → Bool
 begin_overflows (Included n) = false
 begin_overflows (Excluded n) = overflows (n + 1)
 begin_overflows Unbounded = false
 
 -- does the last bound pass 64 bits?
-abbrev pub finish_overflows : Bound → Bool
+abbrev pub finish_overflows : Bound ℕ → Bool
 finish_overflows (Included n) = overflows (n + 1)
 finish_overflows (Excluded n) = false
 finish_overflows Unbounded = false
@@ -166,7 +156,7 @@ claimed Inherited l = l.claim
 claimed OfKind l = l.kind.align
 
 -- an empty range is one that is not reversed and holds no element
-abbrev pub slice_checks : Line → Bound → Bound → ℕ → List Check
+abbrev pub slice_checks : Line → Bound ℕ → Bound ℕ → ℕ → List Check
 slice_checks l first last a =
     (begin_overflows first, Alone BoundOverflow)
     ∷ (finish_overflows last, Alone BoundOverflow)

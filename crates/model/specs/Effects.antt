@@ -1,5 +1,6 @@
 -- What a granted call leaves: the lines, the allocator's meaning and the region's bytes after it.
-use Rattle.std.specs.Prelude.{◌≡◌, ℕ, ◌+◌, ◌-◌, ◌*◌, ◌/◌, ◌^◌, max, Bool, true, false, cond, not, List, [], ◌∷◌, ◌++◌, length, replicate, Some, None, Option, ◌==◌, nat_le, nat_lt}
+use Rattle.std.specs.Prelude.{◌≡◌, ℕ, ◌+◌, ◌-◌, ◌*◌, ◌/◌, ◌^◌, max, Bool, true, false, cond, not, List, [], ◌∷◌, ◌++◌, length, replicate, Some, None, Option, nat_le, nat_lt}
+use Rattle.std.specs.Option.{option_or}
 use Rattle.region.specs.Bytes.{overwrite, part}
 use Rattle.allocation.specs.declared.block.Block.{Block}
 use Rattle.allocation.specs.declared.block.Request.{Request}
@@ -66,7 +67,7 @@ frozen l = with_state l false 0
 
 -- a mutable line without a block
 abbrev pub empty_line : ℕ → Kind → ℕ → Line
-empty_line s k claim = record { serial = s; mutable = true; kind = k; backing = Empty 0; start = max claim preferred_alignment; len = 0; capacity = 0; claim = claim }
+empty_line s k claim = record { serial = s; mutable = true; kind = k; backing = Empty None; start = max claim preferred_alignment; len = 0; capacity = 0; claim = claim }
 
 -- a shared line without a backing
 abbrev pub unbacked_line : ℕ → Kind → ℕ → Line
@@ -94,7 +95,7 @@ list_of (Some b) = b ∷ []
 
 -- elements start at the first multiple of m in the block that was got; without one, at m
 abbrev pub backing_in : Option Block → Backing
-backing_in None = Empty 0
+backing_in None = Empty None
 backing_in (Some b) = Owned b
 
 -- where the elements start
@@ -199,7 +200,7 @@ shortened false n l = l
 -- a backing that the handle s comes to share: an empty one takes its number
 abbrev pub shared_with : ℕ → Backing → Backing
 shared_with s Unbacked = Unbacked
-shared_with s (Empty n) = Empty (cond (n == 0) s n)
+shared_with s (Empty n) = Empty (option_or n (Some s))
 shared_with s (Owned b) = Owned b
 
 -- the line of a slice of n elements from the first one on; an empty slice has no backing

@@ -1,7 +1,7 @@
 -- The table of pedigrees: fed every call and its answer, and nothing of the store.
 use Rattle.std.specs.Prelude.{ℕ, ◌-◌, ◌/◌, cond, List, [], ◌∷◌, ◌++◌, length, take, drop, replicate, Some, None, Option, slice_set}
 use Rattle.allocation.specs.declared.block.Block.{Block}
-use Rattle.model.specs.declared.line.Bound.{Bound}
+use Rattle.std.specs.declared.ops.Bound.{Bound}
 use Rattle.model.specs.declared.line.Kind.{Kind}
 use Rattle.model.specs.Calls.{Aligned, AlignedMut, Answer, Append, Call, Clear, CopyFrom, EmptyShared, EnsureAligned, Freeze, FromBytes, Grant, IntoBytes, IntoMut, Read, Release, Reserve, Set, Share, Slice, Take, Truncate, TryIntoMut, WithCapacity, Zeroed, granted, refused}
 use Rattle.model.specs.Checks.{begin, finish}
@@ -59,7 +59,7 @@ branch None f tb = tb
 branch (Some r) f tb = f r ∷ tb
 
 -- a range of the list, and the block under it: none where the range is empty
-abbrev pub range : Row → Bound → Bound → List (List ℕ)
+abbrev pub range : Row → Bound ℕ → Bound ℕ → List (List ℕ)
 range r first last = take (finish last (length r.list) - begin first) (drop (begin first) r.list)
 
 -- the block under a list: none where the list is empty

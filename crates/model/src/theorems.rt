@@ -1,6 +1,7 @@
 // SPDX-License-Identifier: Apache-2.0
-// What holds of the definitions in specs/. Each public function says yes and stands for the theorem in its contract.
-ghost use Rattle.std.specs.Prelude.{◌≡◌, ℕ, true, List};
+// What holds of the definitions in specs/: a function's contract names each theorem, and to call the function is to have it.
+// The private functions stand on the proofs alone; a public one is proved from the one that it calls.
+ghost use Rattle.std.specs.Prelude.{ℕ, List};
 ghost use Rattle.allocation.specs.Meaning.{Meaning};
 ghost use Rattle.model.specs.Laws.{StoreLaw, InvariantLaw};
 ghost use Rattle.model.specs.Outcomes.{AnsweredLaw, SettledLaw};
@@ -27,41 +28,36 @@ fn settled_law()
 {}
 
 // The law over every run of calls on any number of stores.
-pub fn store_law_holds() -> bool
-    ensures { (result ≡ true) × StoreLaw }
+pub fn store_law_holds()
+    ensures { StoreLaw }
 {
     store_law();
-    true
 }
 
 // The invariant of a store between calls.
-pub fn invariant_is_kept() -> bool
-    ensures { (result ≡ true) × InvariantLaw }
+pub fn invariant_is_kept()
+    ensures { InvariantLaw }
 {
     invariant_law();
-    true
 }
 
 // Lists of values and lists of patterns are equal together, for every kind of element.
-pub fn patterns_are_values<V>() -> bool
-    ensures { (result ≡ true) × ((pattern : V → List ℕ) → ValuesLaw pattern) }
+pub fn patterns_are_values<V>()
+    ensures { (pattern : V → List ℕ) → ValuesLaw pattern }
 {
     values_law::<V>();
-    true
 }
 
 // Every call has an answer, with any allocator that does what its rules grant.
-pub fn every_call_is_answered<B>() -> bool
-    ensures { (result ≡ true) × ((meaning : B → Meaning) → AnsweredLaw meaning) }
+pub fn every_call_is_answered<B>()
+    ensures { (meaning : B → Meaning) → AnsweredLaw meaning }
 {
     answered_law::<B>();
-    true
 }
 
 // The blocks that a call got settle its answer and what it leaves.
-pub fn answers_are_settled() -> bool
-    ensures { (result ≡ true) × SettledLaw }
+pub fn answers_are_settled()
+    ensures { SettledLaw }
 {
     settled_law();
-    true
 }

@@ -51,7 +51,8 @@ impl Element for Pair {
 mod tests {
     use super::*;
     use element::glass_line::GlassLine;
-    use element::writing::{read_at, write_all, write_one, write_repeated};
+    use element::values::{Repeated, Values};
+    use element::writing::{read_at, write_one};
 
     // Three pairs behind the first byte of a region: the bytes around them stay, and each is read back.
     #[test]
@@ -71,7 +72,7 @@ mod tests {
                 second: 6,
             },
         ];
-        write_all(&mut region, 1, &pairs);
+        pairs.as_slice().write(&mut region, 1);
         assert_eq!(rt; region, [9, 1, 2, 3, 4, 5, 6, 9]);
         assert_eq!(rt; read_at::<Pair>(&region[1..7], 1), Some(pairs[1]));
         assert_eq!(rt; read_at::<Pair>(&region[1..7], 3), None);
@@ -80,15 +81,15 @@ mod tests {
     #[test]
     fn one_pair_repeats(rt: HostRuntime) {
         let mut region = [0u8; 5];
-        write_repeated(
-            &mut region,
-            1,
-            &Pair {
-                first: 7,
-                second: 8,
-            },
-            2,
-        );
+        let pair = Pair {
+            first: 7,
+            second: 8,
+        };
+        let pairs = Repeated {
+            value: &pair,
+            times: 2,
+        };
+        pairs.write(&mut region, 1);
         assert_eq!(rt; region, [0, 7, 8, 7, 8]);
     }
 

@@ -1,5 +1,6 @@
 // SPDX-License-Identifier: Apache-2.0
 // The byte work below everything: parts of a lent region are zeroed, moved and compared.
+// Each function is one method of the library, under a contract in the words of a region.
 // Stands for the raw pointer writes of vortex-buffer 0.90.0 (src/buffer_mut.rs).
 #![tactic(auto)]
 

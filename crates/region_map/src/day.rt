@@ -2,11 +2,22 @@
 // A host's day with one allocator: what it takes, grows and gives back on a region of its own, and what it counts of that.
 use allocation::alignment::Alignment;
 use allocation::allocation::{Allocation, Allocator};
-use allocation::block::Block;
+use allocation::block::{Block, Request};
 use allocation::fault::{Fault, Refusal};
 use allocation::layout::Layout;
 use std::alloc::{AllocError, Global};
-use std::fmt;
+use std::collections::BTreeMap;
+use std::ops::Range;
+use thiserror::Error;
+
+// What the host can ask for. Blocks are named by the number that they were given when they were taken.
+#[derive(Clone, Copy)]
+pub enum Call {
+    Take(Request),
+    Zero(Request),
+    Grow { number: usize, size: usize },
+    Give { number: usize },
+}
 
 // A block that the host holds: its number, where it is, and the byte that the host has written all over it.
 #[derive(Clone, Copy)]
@@ -17,49 +28,55 @@ pub struct Held {
     pub mark: u8,
 }
 
-// What was done.
+impl Held {
+    // The place behind the block's last byte.
+    pub fn end(&self) -> usize {
+        places(self.block).end
+    }
+}
+
+// What was done, and what a look at the block's bytes showed.
 #[derive(Clone, Copy)]
 pub enum Outcome {
-    Taken(Held),
-    Zeroed(Held, bool),
-    Grown(Block, Held, bool),
-    Given(Held, bool),
+    Taken {
+        held: Held,
+    },
+    Zeroed {
+        held: Held,
+        all_zero: bool,
+    },
+    Grown {
+        held: Held,
+        moved: bool,
+        came_along: bool,
+    },
+    Given {
+        held: Held,
+        untouched: bool,
+    },
 }
 
 // Why nothing was done.
-#[derive(Clone, Copy)]
+#[derive(Debug, Drop, Error)]
 pub enum Trouble {
-    Refused(Fault),
+    #[error(transparent)]
+    Refused(#[from] Fault),
+    #[error("an alignment is a power of two")]
     NotAPower,
+    #[error("the host holds no block of that number")]
     NotHeld,
+    #[error("this machine has no memory left")]
     Memory,
-}
-
-impl From<Fault> for Trouble {
-    fn from(fault: Fault) -> Trouble {
-        Trouble::Refused(fault)
-    }
 }
 
 impl From<Refusal> for Trouble {
     fn from(refusal: Refusal) -> Trouble {
-        Trouble::Refused(Fault::Alone(refusal))
-    }
-}
-
-impl fmt::Display for Trouble {
-    fn fmt<W: fmt::Write>(&self, f: &mut fmt::Formatter<W>) -> fmt::Result {
-        match self {
-            Trouble::Refused(fault) => write!(f, "{fault}"),
-            Trouble::NotAPower => f.write_str("an alignment is a power of two"),
-            Trouble::NotHeld => f.write_str("the host holds no block of that number"),
-            Trouble::Memory => f.write_str("this machine has no memory left"),
-        }
+        Trouble::Refused(refusal.into())
     }
 }
 
 // What the host counts.
-#[derive(Clone, Copy)]
+#[derive(Clone, Copy, Default)]
 pub struct Tally {
     pub taken: usize,
     pub grown: usize,
@@ -80,31 +97,24 @@ pub struct Closing {
 // The byte that stands everywhere before the day begins.
 const UNTOUCHED: u8 = 165;
 
+// The region of a day, and the blocks that the host holds there, by their numbers.
 #[derive(Drop)]
-pub struct Day<B: Allocator + Drop> {
-    allocator: B,
+pub struct Day {
+    base: usize,
     region: Vec<u8>,
-    held: Vec<Held>,
+    held: BTreeMap<usize, Held>,
     tally: Tally,
 }
 
-impl<B: Allocator + Drop> Day<B> {
-    // A day on a new region, as long as the allocator says.
-    pub fn begin(heap: Global, allocator: B) -> Result<Day<B>, AllocError> {
-        let extent = allocator.extent();
+impl Day {
+    // A day on a new region of that base and length.
+    pub fn begin(heap: Global, base: usize, extent: usize) -> Result<Day, AllocError> {
         let region = vec![in heap; UNTOUCHED; extent]?;
-        let tally = Tally {
-            taken: 0,
-            grown: 0,
-            given: 0,
-            refused: 0,
-            fullest: 0,
-        };
         Ok(Day {
-            allocator,
+            base,
             region,
-            held: Vec::new(heap),
-            tally,
+            held: BTreeMap::new(heap),
+            tally: Tally::default(),
         })
     }
 
@@ -112,18 +122,14 @@ impl<B: Allocator + Drop> Day<B> {
         self.region.len()
     }
 
-    fn address(&self, place: usize) -> usize {
-        self.allocator.base().saturating_add(place)
-    }
-
-    pub fn held(&self) -> &[Held] {
-        self.held.as_slice()
+    pub fn held(&self) -> &BTreeMap<usize, Held> {
+        &self.held
     }
 
     pub fn closing(&self) -> Closing {
         Closing {
             tally: self.tally,
-            extent: self.region.len(),
+            extent: self.extent(),
             blocks_left: self.held.len(),
             bytes_left: self.bytes_held(),
         }
@@ -131,145 +137,140 @@ impl<B: Allocator + Drop> Day<B> {
 
     // How many bytes the host holds.
     fn bytes_held(&self) -> usize {
-        let mut bytes: usize = 0;
-        for held in self.held.as_slice() {
-            bytes = bytes.saturating_add(held.block.size);
-        }
-        bytes
+        self.held.values().fold(0usize, |bytes, held| bytes.saturating_add(held.block.size))
     }
 
-    // Counts what came of a call.
-    pub fn count(&mut self, res: &Result<Outcome, Trouble>) {
-        match res {
-            Ok(Outcome::Taken(_)) => self.tally.taken = self.tally.taken.saturating_add(1),
-            Ok(Outcome::Zeroed(_, _)) => self.tally.taken = self.tally.taken.saturating_add(1),
-            Ok(Outcome::Grown(_, _, _)) => self.tally.grown = self.tally.grown.saturating_add(1),
-            Ok(Outcome::Given(_, _)) => self.tally.given = self.tally.given.saturating_add(1),
-            Err(_) => self.tally.refused = self.tally.refused.saturating_add(1),
-        }
+    // Makes a call of the allocator, and counts what came of it.
+    pub fn call<B: Allocator>(
+        &mut self,
+        allocator: &mut B,
+        call: Call,
+    ) -> Result<Outcome, Trouble> {
+        let outcome = match call {
+            Call::Take(request) => self.take(allocator, request),
+            Call::Zero(request) => self.zero(allocator, request),
+            Call::Grow { number, size } => self.grow(allocator, number, size),
+            Call::Give { number } => self.give(allocator, number),
+        };
+        self.count(&outcome);
+        outcome
+    }
+
+    fn count(&mut self, outcome: &Result<Outcome, Trouble>) {
+        let counter = match outcome {
+            Ok(Outcome::Taken { .. } | Outcome::Zeroed { .. }) => &mut self.tally.taken,
+            Ok(Outcome::Grown { .. }) => &mut self.tally.grown,
+            Ok(Outcome::Given { .. }) => &mut self.tally.given,
+            Err(_) => &mut self.tally.refused,
+        };
+        *counter = counter.saturating_add(1);
         self.tally.fullest = self.tally.fullest.max(self.bytes_held());
     }
 
     // Takes a block and writes the host's mark all over it.
-    pub fn take(&mut self, size: usize, align: usize) -> Result<Outcome, Trouble> {
-        let layout = layout_of(size, align)?;
-        let allocation = Allocation::allocate(&mut self.allocator, self.region.as_slice(), layout)?;
-        let held = self.keep(allocation, true)?;
+    fn take<B: Allocator>(
+        &mut self,
+        allocator: &mut B,
+        request: Request,
+    ) -> Result<Outcome, Trouble> {
+        let layout = layout_of(request)?;
+        let allocation = Allocation::allocate(allocator, self.region.as_slice(), layout)?;
+        let held = self.keep(allocator, allocation, mark_of(self.next_number()))?;
         fill(self.region.as_mut_slice(), held.block, held.mark);
-        Ok(Outcome::Taken(held))
+        Ok(Outcome::Taken { held })
     }
 
     // Takes a block of zeros.
-    pub fn zero(&mut self, size: usize, align: usize) -> Result<Outcome, Trouble> {
-        let layout = layout_of(size, align)?;
+    fn zero<B: Allocator>(
+        &mut self,
+        allocator: &mut B,
+        request: Request,
+    ) -> Result<Outcome, Trouble> {
+        let layout = layout_of(request)?;
         let allocation = Allocation::allocate_zeroed(
-            &mut self.allocator,
+            allocator,
             self.region.as_mut_slice(),
             layout,
         )?;
-        let held = self.keep(allocation, false)?;
-        Ok(Outcome::Zeroed(held, self.intact(held)))
+        let held = self.keep(allocator, allocation, 0)?;
+        let all_zero = is_filled(self.region.as_slice(), held.block, 0);
+        Ok(Outcome::Zeroed { held, all_zero })
     }
 
     // Grows a block of the host's, and looks whether its bytes came along.
-    pub fn grow(&mut self, number: usize, size: usize) -> Result<Outcome, Trouble> {
-        let Some(i) = self.find(number) else {
-            return Err(Trouble::NotHeld);
+    fn grow<B: Allocator>(
+        &mut self,
+        allocator: &mut B,
+        number: usize,
+        size: usize,
+    ) -> Result<Outcome, Trouble> {
+        let held = self.held.get_mut(&number).ok_or(Trouble::NotHeld)?;
+        let old = held.block;
+        let align = old.align;
+        let layout = layout_of(Request { size, align })?;
+        let mut allocation = Allocation { block: old };
+        allocation.grow(allocator, self.region.as_mut_slice(), layout)?;
+        let new = allocation.block;
+        held.block = new;
+        held.address = self.base.saturating_add(new.place);
+        let brought = Block {
+            size: old.size,
+            ..new
         };
-        let Some(old) = self.held.get(i).copied() else {
-            return Err(Trouble::NotHeld);
-        };
-        let layout = layout_of(size, old.block.align)?;
-        let mut allocation = Allocation { block: old.block };
-        allocation.grow(&mut self.allocator, self.region.as_mut_slice(), layout)?;
-        let new = Held {
-            number,
-            block: allocation.block,
-            address: self.address(allocation.place()),
-            mark: old.mark,
-        };
-        let came_along = self.bytes_are(new.block.place, old.block.size, new.mark);
-        if let Some(slot) = self.held.get_mut(i) {
-            *slot = new;
-        }
-        fill(self.region.as_mut_slice(), new.block, new.mark);
-        Ok(Outcome::Grown(old.block, new, came_along))
+        let came_along = is_filled(self.region.as_slice(), brought, held.mark);
+        fill(self.region.as_mut_slice(), new, held.mark);
+        Ok(Outcome::Grown {
+            held: *held,
+            moved: new.place != old.place,
+            came_along,
+        })
     }
 
     // Gives a block back, after a last look at its bytes.
-    pub fn give(&mut self, number: usize) -> Result<Outcome, Trouble> {
-        let Some(i) = self.find(number) else {
-            return Err(Trouble::NotHeld);
-        };
-        let Some(held) = self.held.get(i).copied() else {
-            return Err(Trouble::NotHeld);
-        };
-        let kept = self.intact(held);
+    fn give<B: Allocator>(&mut self, allocator: &mut B, number: usize) -> Result<Outcome, Trouble> {
+        let held = *self.held.get(&number).ok_or(Trouble::NotHeld)?;
+        let untouched = is_filled(self.region.as_slice(), held.block, held.mark);
         let allocation = Allocation { block: held.block };
-        allocation.release(&mut self.allocator, self.region.as_slice())?;
-        if i < self.held.len() {
-            let _ = self.held.remove(i);
-        }
-        Ok(Outcome::Given(held, kept))
+        allocation.release(allocator, self.region.as_slice())?;
+        self.held.remove(&number);
+        Ok(Outcome::Given { held, untouched })
     }
 
     // Notes a block under the next number; where that finds no memory, the block goes back.
-    fn keep(&mut self, allocation: Allocation, marked: bool) -> Result<Held, Trouble> {
-        let number = self.tally.taken.saturating_add(1);
+    fn keep<B: Allocator>(
+        &mut self,
+        allocator: &mut B,
+        allocation: Allocation,
+        mark: u8,
+    ) -> Result<Held, Trouble> {
+        let number = self.next_number();
         let held = Held {
             number,
             block: allocation.block,
-            address: self.address(allocation.place()),
-            mark: if marked { mark_of(number) } else { 0 },
+            address: self.base.saturating_add(allocation.place()),
+            mark,
         };
-        match self.held.push(held) {
-            Ok(()) => Ok(held),
-            Err(_) => {
-                allocation.release(&mut self.allocator, self.region.as_slice())?;
-                Err(Trouble::Memory)
-            }
+        if self.held.insert(number, held).is_err() {
+            allocation.release(allocator, self.region.as_slice())?;
+            return Err(Trouble::Memory);
         }
+        Ok(held)
     }
 
-    fn find(&self, number: usize) -> Option<usize> {
-        for (i, held) in self.held.as_slice().iter().enumerate() {
-            if held.number == number {
-                return Some(i);
-            }
-        }
-        None
-    }
-
-    // Whether a block still holds the host's mark and nothing else.
-    fn intact(&self, held: Held) -> bool {
-        self.bytes_are(held.block.place, held.block.size, held.mark)
-    }
-
-    fn bytes_are(&self, place: usize, size: usize, mark: u8) -> bool {
-        let region = self.region.as_slice();
-        let end = place.saturating_add(size);
-        if end > region.len() {
-            return false;
-        }
-        for byte in &region[place..end] {
-            if *byte != mark {
-                return false;
-            }
-        }
-        true
+    // The number of the next block that is taken.
+    fn next_number(&self) -> usize {
+        self.tally.taken.saturating_add(1)
     }
 }
 
 // The layout of a size and an alignment in bytes.
-fn layout_of(size: usize, align: usize) -> Result<Layout, Trouble> {
-    if !align.is_power_of_two() {
+fn layout_of(request: Request) -> Result<Layout, Trouble> {
+    if !request.align.is_power_of_two() {
         return Err(Trouble::NotAPower);
     }
-    let Ok(exponent) = u8::try_from(align.trailing_zeros()) else {
-        return Err(Trouble::NotAPower);
-    };
-    let alignment = Alignment::try_from_untrusted_exponent(exponent)?;
-    Ok(Layout::from_size_align(size, alignment)?)
+    let exponent = request.align.trailing_zeros() as u8;
+    let align = Alignment::try_from_untrusted_exponent(exponent)?;
+    Ok(Layout::from_size_align(request.size, align)?)
 }
 
 // The mark of the block of that number: never 0, and never what stood there before the day.
@@ -277,10 +278,20 @@ fn mark_of(number: usize) -> u8 {
     (number % 100) as u8 + 1
 }
 
+// The places of a block's bytes.
+fn places(block: Block) -> Range<usize> {
+    block.place..block.place.saturating_add(block.size)
+}
+
+// Whether every byte of a block is this one.
+fn is_filled(region: &[u8], block: Block, mark: u8) -> bool {
+    region
+        .get(places(block))
+        .is_some_and(|bytes| bytes.iter().all(|byte| *byte == mark))
+}
+
 fn fill(region: &mut [u8], block: Block, mark: u8) {
-    let place = block.place;
-    let end = place.saturating_add(block.size);
-    if end <= region.len() {
-        region[place..end].fill(mark);
+    if let Some(bytes) = region.get_mut(places(block)) {
+        bytes.fill(mark);
     }
 }

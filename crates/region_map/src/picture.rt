@@ -1,13 +1,16 @@
 // SPDX-License-Identifier: Apache-2.0
 // A picture of a region in text: which bytes are whose, and what is free.
-use crate::day::Held;
+use crate::day::{Day, Held};
+use allocation::block::Block;
 use std::io;
+use std::iter::successors;
 
 // How many signs the picture is wide.
 const CELLS: usize = 64;
 
 // Prints a row of signs and then every stretch of the region, lowest first.
-pub fn draw(rt: &HostRuntime, extent: usize, held: &[Held]) -> io::Result<()> {
+pub fn draw(rt: &impl Print, day: &Day) -> io::Result<()> {
+    let extent = day.extent();
     let width = extent / CELLS;
     print!(rt; "   [")?;
     for i in 0..CELLS {
@@ -17,30 +20,27 @@ pub fn draw(rt: &HostRuntime, extent: usize, held: &[Held]) -> io::Result<()> {
         } else {
             from.saturating_add(width)
         };
-        print!(rt; "{}", sign(held, from, end))?;
+        print!(rt; "{}", sign(day, from, end))?;
     }
     println!(rt; "] {width} bytes a sign")?;
-    stretches(rt, extent, held)
+    stretches(rt, day)
 }
 
-fn stretches(rt: &HostRuntime, extent: usize, held: &[Held]) -> io::Result<()> {
+// Looks for each next block anew, since a sorted copy would need memory, which can run out.
+fn stretches(rt: &impl Print, day: &Day) -> io::Result<()> {
+    let by_place = successors(lowest_from(day, 0), |held| lowest_from(day, held.end()));
     let mut free_from = 0;
-    for _ in 0..held.len() {
-        let Some(next) = lowest_from(held, free_from) else {
-            break;
-        };
-        free(rt, free_from, next.block.place)?;
-        let place = next.block.place;
-        let size = next.block.size;
-        free_from = place.saturating_add(size);
-        let number = next.number;
-        let align = next.block.align;
+    for held in by_place.take(day.held().len()) {
+        let Block { place, size, align } = held.block;
+        free(rt, free_from, place)?;
+        free_from = held.end();
+        let number = held.number;
         println!(rt; "   {place}..{free_from} block {number}, {size} bytes at alignment {align}")?;
     }
-    free(rt, free_from, extent)
+    free(rt, free_from, day.extent())
 }
 
-fn free(rt: &HostRuntime, from: usize, end: usize) -> io::Result<()> {
+fn free(rt: &impl Print, from: usize, end: usize) -> io::Result<()> {
     let size = end.saturating_sub(from);
     if size > 0 {
         println!(rt; "   {from}..{end} free, {size} bytes")?;
@@ -49,39 +49,31 @@ fn free(rt: &HostRuntime, from: usize, end: usize) -> io::Result<()> {
 }
 
 // The block that starts lowest at or above a place.
-fn lowest_from(held: &[Held], place: usize) -> Option<Held> {
-    let mut lowest: Option<Held> = None;
-    for one in held {
-        if one.block.place >= place {
-            lowest = match lowest {
-                Some(other) if other.block.place <= one.block.place => Some(other),
-                _ => Some(*one),
-            };
-        }
-    }
-    lowest
+fn lowest_from(day: &Day, place: usize) -> Option<Held> {
+    day.held()
+        .values()
+        .copied()
+        .filter(|held| held.block.place >= place)
+        .min_by_key(|held| held.block.place)
 }
 
 // The sign of a cell: a point where it is free, a star where several blocks meet, else the block's own.
-fn sign(held: &[Held], from: usize, end: usize) -> char {
-    let mut found = '.';
-    for one in held {
-        let block = one.block;
-        if block.place < end && from < block.place.saturating_add(block.size) {
-            found = if found == '.' {
-                sign_of(one.number)
-            } else {
-                '*'
-            };
-        }
+fn sign(day: &Day, from: usize, end: usize) -> char {
+    let mut inside = day
+        .held()
+        .values()
+        .filter(|held| held.block.place < end && from < held.end());
+    match (inside.next(), inside.next()) {
+        (None, _) => '.',
+        (Some(held), None) => sign_of(held.number),
+        (Some(_), Some(_)) => '*',
     }
-    found
 }
 
 fn sign_of(number: usize) -> char {
     const SIGNS: [u8; 61] = *b"123456789abcdefghijklmnopqrstuvwxyzABCDEFGHIJKLMNOPQRSTUVWXYZ";
-    if number == 0 {
-        return '?';
+    match number.checked_sub(1) {
+        Some(i) => SIGNS[i % SIGNS.len()] as char,
+        None => '?',
     }
-    SIGNS[(number - 1) % 61] as char
 }

@@ -15,7 +15,6 @@ ghost use Rattle.model.specs.Reads.{shown_place};
 
 use allocation::alignment::DEFAULT_ALIGNMENT;
 use allocation::block::Block;
-use book::lines::{backing_in, block_of, empty_line, regrouped, unbacked_line, with_state};
 use model::line::{Backing, Kind, Line};
 
 // How far n lies below the first multiple of m at or above it.
@@ -90,7 +89,7 @@ pub fn made(
         serial,
         mutable: true,
         kind,
-        backing: backing_in(got),
+        backing: Backing::new(got),
         start: start_in(base, m, got),
         len: n,
         capacity: capacity_in(base, m, kind.width, got),
@@ -113,7 +112,7 @@ pub fn copied_into(
 {
     Line {
         mutable,
-        backing: backing_in(got),
+        backing: Backing::new(got),
         start: start_in(base, m, got),
         capacity,
         claim,
@@ -145,10 +144,7 @@ pub fn grows_from(copies: bool, size: usize, held: Option<Block>) -> Option<Bloc
     if copies {
         return None;
     }
-    match held {
-        Some(block) => if size < block.size { None } else { Some(block) },
-        None => None,
-    }
+    held.filter(|block| block.size <= size)
 }
 
 // Where elements stand in a block that grew and now starts at a place: at their old offset.
@@ -172,7 +168,7 @@ pub fn shown_place(base: usize, line: Line) -> usize
     requires { Sits base line (block_of line.backing) }
     ensures { result ≡ shown_place base line }
 {
-    match block_of(line.backing) {
+    match line.backing.block() {
         Some(_) => line.start - base,
         None => 0,
     }
@@ -191,8 +187,7 @@ pub fn into_bytes(line: Line) -> Line
     ensures { result ≡ regrouped line byte (line.len * line.kind.width) (line.capacity * line.kind.width) line.claim }
 {
     let width = line.kind.width;
-    regrouped(
-        line,
+    line.regrouped(
         Kind { width: 1, align: 1 },
         line.len * width,
         line.capacity * width,
@@ -205,13 +200,7 @@ pub fn from_bytes(line: Line, kind: Kind, claim: usize) -> Line
     requires { (line.len * line.kind.width < 2 ^ 64) × (1 ≤ kind.width) }
     ensures { result ≡ regrouped line kind ((line.len * line.kind.width) / kind.width) 0 claim }
 {
-    regrouped(
-        line,
-        kind,
-        line.len * line.kind.width / kind.width,
-        0,
-        claim,
-    )
+    line.regrouped(kind, line.len * line.kind.width / kind.width, 0, claim)
 }
 
 // The line of a slice, from one element up to another; an empty one has no backing.
@@ -230,7 +219,7 @@ pub fn slice_line(serial: u32, line: Line, begin: usize, end: usize, claim: usiz
             ..line
         }
     } else {
-        unbacked_line(serial, line.kind, claim)
+        Line::unbacked(serial, line.kind, claim)
     }
 }
 
@@ -250,8 +239,8 @@ pub fn unfrozen(base: usize, line: Line) -> Line
     ensures { result ≡ unfrozen (state_with 0 base) line line.backing }
 {
     match line.backing {
-        Backing::Unbacked => empty_line(line.serial, line.kind, line.claim),
-        Backing::Empty(_) => with_state(line, true, 0),
-        Backing::Owned(block) => with_state(line, true, room_behind(base, line, block)),
+        Backing::Unbacked => Line::empty(line.serial, line.kind, line.claim),
+        Backing::Empty(_) => line.with_state(true, 0),
+        Backing::Owned(block) => line.with_state(true, room_behind(base, line, block)),
     }
 }

@@ -1,5 +1,5 @@
 -- Nine worked examples: calls, their answers and the states after them, over the meanings of General and Shelf.
-use Rattle.std.specs.Prelude.{◌≡◌, ℕ, ◌+◌, ◌^◌, true, false, List, [], ◌∷◌, length}
+use Rattle.std.specs.Prelude.{◌≡◌, ℕ, ◌+◌, ◌^◌, true, false, List, [], ◌∷◌, length, None}
 use Rattle.allocation.specs.declared.block.Block.{Block}
 use Rattle.allocation.specs.declared.fault.Fault.TheVariants.{Alone}
 use Rattle.allocation.specs.declared.fault.Refusal.TheVariants.{Overflow, LayoutTooLarge, RangeReversed, OffsetUnaligned}
@@ -13,7 +13,7 @@ use Rattle.model.specs.Calls.{granted, refused, giving, done, with_capacity_in, 
 use Rattle.model.specs.Checks.{request_for}
 use Rattle.model.specs.declared.line.Backing.{Backing}
 use Rattle.model.specs.declared.line.Backing.TheVariants.{Unbacked, Empty, Owned}
-use Rattle.model.specs.declared.line.Bound.TheVariants.{Included, Excluded}
+use Rattle.std.specs.declared.ops.Bound.TheVariants.{Included, Excluded}
 use Rattle.model.specs.declared.line.Handle.{Handle}
 use Rattle.model.specs.declared.line.Kind.{Kind}
 use Rattle.model.specs.declared.line.Line.{Line}
@@ -76,7 +76,7 @@ module _ (bytes : List ℕ) where
   abbrev pub Three : Type 0
   Three =
       Answers (store 1 [] (general 65536 []) bytes) extent (with_capacity_in u32 0) (granted (giving 1 []))
-      (store 2 (mutable_line 1 u32 (Empty 0) 256 0 0 ∷ []) (general 65536 []) bytes)
+      (store 2 (mutable_line 1 u32 (Empty None) 256 0 0 ∷ []) (general 65536 []) bytes)
 
   -- 4: the first example's buffer, filled with 74 elements. One more asks for 596 bytes, which General gives at place 296, and the capacity is 148; the old block goes back.
   pub record Four (v : List ℕ) : Type 0 where

@@ -2,18 +2,9 @@
 // Nine worked examples of the store's definitions, over what General and Shelf mean, proved together.
 #![tactic(auto)]
 
-ghost use Rattle.std.specs.Prelude.{◌≡◌, true};
 ghost use Rattle.worked_examples.specs.Worked.{NineExamples};
 
-fn said() -> bool
-    ensures { result ≡ true }
-{
-    true
-}
-
 // The nine examples, whatever bytes the region holds and whatever values are put.
-pub fn nine_examples_hold() -> bool
-    ensures { (result ≡ true) × NineExamples }
-{
-    said()
-}
+pub fn nine_examples_hold()
+    ensures { NineExamples }
+{}

@@ -1,9 +1,7 @@
 // SPDX-License-Identifier: Apache-2.0
 // The lone block's answers and calls, by the contract of every allocator.
-ghost use Rattle.std.specs.Prelude.{◌≡◌, ◌^◌, ◌<◌, ◌≤◌, None, Err, MatchResult};
+ghost use Rattle.std.specs.Prelude.{◌≡◌, ◌^◌, ◌<◌, ◌≤◌, None, MatchResult};
 ghost use Rattle.allocation.specs.Asked.{asked};
-ghost use Rattle.allocation.specs.declared.fault.Fault.TheVariants.{Asked};
-ghost use Rattle.allocation.specs.declared.fault.Layer.TheVariants.{Allocator};
 ghost use Rattle.allocation.specs.declared.fault.Refusal.TheVariants.{RegionDiffers};
 ghost use Rattle.allocation.specs.Faults.{block_at};
 ghost use Rattle.lone_block.specs.Blocks.{inside, first_place};
@@ -12,26 +10,9 @@ ghost use Rattle.lone_block.specs.Laws.{lawful_alone};
 
 use crate::lone::LoneBlock;
 use allocation::allocation::Allocator;
-use allocation::block::{Block, Request};
-use allocation::fault::{Fault, Layer, Refusal};
+use allocation::block::Block;
+use allocation::fault::{Fault, Refusal};
 use allocation::layout::Layout;
-
-fn refused<T>(refusal: Refusal, request: Request) -> Result<T, Fault>
-    ensures { result ≡ Err (Asked refusal Allocator request) }
-{
-    Err(Fault::Asked(refusal, Layer::Allocator, request))
-}
-
-// The block of a layout at a place.
-fn block_at(place: usize, layout: Layout) -> Block
-    ensures { result ≡ block_at place (asked layout) }
-{
-    Block {
-        place,
-        size: layout.size(),
-        align: layout.align().as_usize(),
-    }
-}
 
 impl LoneBlock {
     // An allocator without a block, unless the base or the length is too large or the length too small.
@@ -55,7 +36,7 @@ impl LoneBlock {
         ensures { result ≡ block_at (first_place self.now.base (asked layout).align) (asked layout) }
     {
         let align = layout.align().as_usize();
-        block_at((align - self.base % align) % align, layout)
+        Block::at(self.base.next_multiple_of(align) - self.base, layout)
     }
 
     // Whether a block lies in the region and is aligned.
@@ -66,7 +47,7 @@ impl LoneBlock {
         block.size > 0
             && block.size <= self.extent
             && block.place <= self.extent - block.size
-            && (self.base + block.place) % block.align == 0
+            && (self.base + block.place).is_multiple_of(block.align)
     }
 }
 
@@ -96,35 +77,29 @@ impl Allocator for LoneBlock {
     }
 
     fn is_live(&self, block: Block) -> bool {
-        match self.live {
-            Some(live) => live.is(block),
-            None => false,
-        }
+        self.live == Some(block)
     }
 
     fn would_grant(&self, layout: Layout) -> bool {
-        match self.live {
-            Some(_) => false,
-            None => self.has_room(self.candidate(layout)),
-        }
+        self.live.is_none() && self.has_room(self.candidate(layout))
     }
 
     fn would_grow(&self, block: Block, layout: Layout) -> bool {
         self.is_live(block)
             && block.size <= layout.size()
-            && self.has_room(block_at(block.place, layout))
+            && self.has_room(Block::at(block.place, layout))
     }
 
     fn allocate(&mut self, region: &[u8], layout: Layout) -> Result<usize, Fault> {
         let block = self.candidate(layout);
         if region.len() != self.extent {
-            return refused(Refusal::RegionDiffers, block.request());
+            return Err(Fault::by_allocator(Refusal::RegionDiffers, block.into()));
         }
         if block.size == 0 {
-            return refused(Refusal::NoSuchBlock, block.request());
+            return Err(Fault::by_allocator(Refusal::NoSuchBlock, block.into()));
         }
         if !self.would_grant(layout) {
-            return refused(Refusal::NotGranted, block.request());
+            return Err(Fault::by_allocator(Refusal::NotGranted, block.into()));
         }
         self.live = Some(block);
         Ok(block.place)
@@ -132,25 +107,25 @@ impl Allocator for LoneBlock {
 
     fn deallocate(&mut self, region: &[u8], block: Block) -> Result<(), Fault> {
         if region.len() != self.extent {
-            return refused(Refusal::RegionDiffers, block.request());
+            return Err(Fault::by_allocator(Refusal::RegionDiffers, block.into()));
         }
         if !self.is_live(block) {
-            return refused(Refusal::NoSuchBlock, block.request());
+            return Err(Fault::by_allocator(Refusal::NoSuchBlock, block.into()));
         }
         self.live = None;
         Ok(())
     }
 
     fn grow(&mut self, region: &mut [u8], block: Block, layout: Layout) -> Result<usize, Fault> {
-        let grown = block_at(block.place, layout);
+        let grown = Block::at(block.place, layout);
         if region.len() != self.extent {
-            return refused(Refusal::RegionDiffers, grown.request());
+            return Err(Fault::by_allocator(Refusal::RegionDiffers, grown.into()));
         }
         if !self.is_live(block) || grown.size < block.size {
-            return refused(Refusal::NoSuchBlock, grown.request());
+            return Err(Fault::by_allocator(Refusal::NoSuchBlock, grown.into()));
         }
         if !self.has_room(grown) {
-            return refused(Refusal::NotGranted, grown.request());
+            return Err(Fault::by_allocator(Refusal::NotGranted, grown.into()));
         }
         self.live = Some(grown);
         Ok(grown.place)

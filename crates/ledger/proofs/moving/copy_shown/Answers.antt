@@ -6,11 +6,11 @@ use Rattle.ledger.proofs.moving.copy_shown.Goals as goal
 pub returns-in-Some : goal.returns-in-Some
 unfolding shown shown_on
 returns-in-Some c =
-    let o : block_of c.args.line.backing ≡ Some c.in-Some.field-0 = sym c.block_of.ensures ∙ c.in-Some.is in
+    let o : block_of c.args.line.backing ≡ Some c.in-Some.field-0 = sym c.block.ensures ∙ c.in-Some.is in
     rw o c.move_within.ensures
 
 pub returns-in_default : goal.returns-in_default
 unfolding shown shown_on
 returns-in_default c =
-    let o : block_of c.args.line.backing ≡ None = sym c.block_of.ensures ∙ c.in_default.is in
+    let o : block_of c.args.line.backing ≡ None = sym c.block.ensures ∙ c.in_default.is in
     rw o (sym (overwrite_none c.args.place c.args.region.now))

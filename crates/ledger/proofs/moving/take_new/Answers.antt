@@ -28,14 +28,14 @@ copy_shown-requires g c =
 pub returns-in_err-give_back : goal.returns-in_err-give_back
 returns-in_err-give_back g c =
     let m : Meaning = g.B.Allocator.meaning c.args.allocator.now in
-    absurd (old_goes m (length c.args.region.now) c.args.line (asked c.args.layout) c.requires (length c.copy_shown.new.region) c.in_ok-allocation.allocation.block (g.B.Allocator.meaning c.allocate.new.allocator) c.block_of.result _
-    c.copy_shown.auto.region c.in_ok-allocation.ensures.outcome.1 c.block_of.ensures c.in_err-give_back.ensures.0)
+    absurd (old_goes m (length c.args.region.now) c.args.line (asked c.args.layout) c.requires (length c.copy_shown.new.region) c.in_ok-allocation.allocation.block (g.B.Allocator.meaning c.allocate.new.allocator) c.block.result _
+    c.copy_shown.auto.region c.in_ok-allocation.ensures.outcome.1 c.block.ensures c.in_err-give_back.ensures.0)
 
 pub returns : goal.returns
 returns g c =
     let m : Meaning = g.B.Allocator.meaning c.args.allocator.now in
     let x = c.in_ok-allocation.ensures.outcome in (
       alloc_granted m (length c.args.region.now) c.args.line (asked c.args.layout) c.requires x.0,
-      taken_by m (length c.args.region.now) c.args.line (asked c.args.layout) c.requires c.in_ok-allocation.allocation.block c.base-base.result c.place_in-place.result (g.B.Allocator.meaning c.allocate.new.allocator) _ c.block_of.result c.args.region.now c.copy_shown.new.region
-          c.base-base.ensures c.place_in-place.ensures c.block_of.ensures x.1 c.in_ok-give_back.ensures c.copy_shown.ensures,
+      taken_by m (length c.args.region.now) c.args.line (asked c.args.layout) c.requires c.in_ok-allocation.allocation.block c.base-base.result c.place_in-place.result (g.B.Allocator.meaning c.allocate.new.allocator) _ c.block.result c.args.region.now c.copy_shown.new.region
+          c.base-base.ensures c.place_in-place.ensures c.block.ensures x.1 c.in_ok-give_back.ensures c.copy_shown.ensures,
     )

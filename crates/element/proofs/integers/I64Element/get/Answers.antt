@@ -4,5 +4,5 @@ use Rattle.element.proofs.integers.I64Element.get.Goals as goal
 
 pub returns : goal.returns
 returns c =
-    let fits : SFits w64 c.of_bits.result = search rules in
-    signed_get c.of_bits.result c.get.result c.args.bytes.now (record { fits = c.get.type_inv }) fits c.of_bits.ensures c.get.ensures
+    let fits : SFits w64 c.cast_signed.result = search rules in
+    signed_get c.cast_signed.result c.get.result c.args.bytes.now (record { fits = c.get.type_inv }) fits c.cast_signed.ensures c.get.ensures

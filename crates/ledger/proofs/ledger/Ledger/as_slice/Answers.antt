@@ -1,5 +1,4 @@
 use Rattle.std.proofs.Common.{sym, refl, ◌∙◌, subst}
-use Rattle.held.specs.Whole.{parts}
 use Rattle.model.specs.Book.{State, block_of}
 use Rattle.model.specs.Calls.{Read}
 use Rattle.model.specs.Invariant.{Sits}
@@ -13,8 +12,8 @@ pub shown_in-requires : goal.shown_in-requires
 shown_in-requires g c =
     let st : State = state g.B.Allocator.meaning c.args.self.now c.args.region.now in
     record {
-      sits = subst (λ b. Sits b c.in_ok-spot.spot.line (block_of c.in_ok-spot.spot.line.backing)) (sym c.base-base.ensures) (edits.stands st (parts c.args.self.now.allocator) c.args.h c.in_ok-spot.spot c.in_ok-spot.ensures).sits;
-      inside = ((edits.bytes_fit st (parts c.args.self.now.allocator) c.args.h c.in_ok-spot.spot c.in_ok-spot.ensures).0, shown_inside st (parts c.args.self.now.allocator) c.args.h c.in_ok-spot.spot c.in_ok-spot.ensures c.base-base.result c.base-base.ensures);
+      sits = subst (λ b. Sits b c.in_ok-spot.spot.line (block_of c.in_ok-spot.spot.line.backing)) (sym c.base-base.ensures) (edits.stands st c.args.h c.in_ok-spot.spot c.in_ok-spot.ensures).sits;
+      inside = ((edits.bytes_fit st c.args.h c.in_ok-spot.spot c.in_ok-spot.ensures).0, shown_inside st c.args.h c.in_ok-spot.spot c.in_ok-spot.ensures c.base-base.result c.base-base.ensures);
     }
 
 pub returns : goal.returns
@@ -22,6 +21,6 @@ returns g c =
     let st : State = state g.B.Allocator.meaning c.args.self.now c.args.region.now in
     let a = c.in_ok-spot.ensures in
     let read = used st c.args.h (Read c.args.h) refl a.passed in
-    let bytes = c.shown_in.ensures ∙ shown_part st (parts c.args.self.now.allocator) c.args.h c.in_ok-spot.spot a c.base-base.result c.base-base.ensures in
-    let there = c.shown_in.ensures ∙ shown_at st (parts c.args.self.now.allocator) c.args.h c.in_ok-spot.spot a c.base-base.result c.base-base.ensures in
+    let bytes = c.shown_in.ensures ∙ shown_part st c.args.h c.in_ok-spot.spot a c.base-base.result c.base-base.ensures in
+    let there = c.shown_in.ensures ∙ shown_at st c.args.h c.in_ok-spot.spot a c.base-base.result c.base-base.ensures in
     record { outcome = (read, bytes); place = (granted_reading st c.args.h read, bytes, there) }

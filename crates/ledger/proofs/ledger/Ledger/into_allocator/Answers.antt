@@ -9,5 +9,5 @@ none_left (x ∷ xs) e = absurd (omega arith)
 
 pub returns : goal.returns
 returns g c =
-    let ls = lines_of c.args.self.book in
-    (none_left ls (eqb-true (length ls) 0 (sym c.is_idle.ensures ∙ c.if-not-is_idle.false)), c.into_inner.ensures.0)
+    let ls = lines_of c.args.self.register.book in
+    (none_left ls (eqb-true (length ls) 0 (sym c.is_idle.ensures ∙ c.if-not-is_idle.false)), refl)

@@ -1,29 +1,14 @@
-use Rattle.std.proofs.Common.{◌*◌, [], refl, ap}
-use Rattle.book.specs.Held.{lines_of}
-use Rattle.held.specs.Whole.{parts}
-use Rattle.model.specs.Book.{State}
-use Rattle.model.specs.Calls.{IntoBytes}
-use Rattle.model.specs.Effects.{regrouped}
-use Rattle.model.specs.Kinds.{byte}
-use Rattle.model.specs.declared.line.Line.{Line}
+use Rattle.std.proofs.Common.{rules}
 use Rattle.ledger.specs.View.{state}
-use Rattle.ledger.proofs.Edits.{over}
-use Rattle.ledger.proofs.LineEdits as link
-use Rattle.ledger.proofs.Ties.{after}
+use Rattle.ledger.proofs.Changes.{into_bytes, keeps, changed}
+use Rattle.ledger.proofs.LineEdits.{bytes_fit}
 use Rattle.ledger.proofs.ledger.Ledger.into_byte_buffer.Goals as goal
 
-pub into_bytes-requires : goal.into_bytes-requires
-into_bytes-requires g c =
-    let st : State = state g.B.Allocator.meaning c.args.self.now c.args.region.now in
-    link.bytes_fit st (parts c.args.self.now.allocator) c.args.h c.in_ok-spot.spot c.in_ok-spot.ensures
+pub edit-requires-clause-asks : goal.edit-requires-clause-asks
+edit-requires-clause-asks g c = λ spot a. search (rules, bytes_fit (state g.B.Allocator.meaning c.args.self.now c.args.region.now) c.args.h spot a)
+
+pub edit-requires-clause-keeps : goal.edit-requires-clause-keeps
+edit-requires-clause-keeps g c = λ spot a new p. keeps (into_bytes (state g.B.Allocator.meaning c.args.self.now c.args.region.now) c.args.h) spot a new (search rules)
 
 pub returns : goal.returns
-returns g c =
-    let st : State = state g.B.Allocator.meaning c.args.self.now c.args.region.now in
-    link.edited st (parts c.args.self.now.allocator) c.args.h c.in_ok-spot.spot c.in_ok-spot.ensures (IntoBytes c.args.h) (λ l. []) refl refl (λ l. regrouped l byte (l.len * l.kind.width) (l.capacity * l.kind.width) l.claim) (λ st' q. (refl, q)) c.into_bytes.result (lines_of c.put.new.self) refl c.into_bytes.ensures (ap (λ (z : Line). z.serial) c.into_bytes.ensures) c.put.ensures
-
-pub invariant_of-self : goal.invariant_of-self
-invariant_of-self g c =
-    let st : State = state g.B.Allocator.meaning c.args.self.now c.args.region.now in
-    after st (parts c.args.self.now.allocator) c.in_ok-spot.ensures.ready (IntoBytes c.args.h) 0 (over st (lines_of c.put.new.self) st.meaning st.bytes) (parts c.args.self.now.allocator) tt
-    (link.edited st (parts c.args.self.now.allocator) c.args.h c.in_ok-spot.spot c.in_ok-spot.ensures (IntoBytes c.args.h) (λ l. []) refl refl (λ l. regrouped l byte (l.len * l.kind.width) (l.capacity * l.kind.width) l.claim) (λ st' q. (refl, q)) c.into_bytes.result (lines_of c.put.new.self) refl c.into_bytes.ensures (ap (λ (z : Line). z.serial) c.into_bytes.ensures) c.put.ensures) c.in_ok-spot.ensures.ready.tie
+returns g c = changed (into_bytes (state g.B.Allocator.meaning c.args.self.now c.args.region.now) c.args.h) _ _ _ c.edit.ensures (λ spot a new p. search rules) (λ spot a f p. search rules)

@@ -1,5 +1,4 @@
 use Rattle.std.proofs.Common.{◌≡◌, None, rules}
-use Rattle.held.specs.Whole.{parts}
 use Rattle.model.specs.Book.{State}
 use Rattle.model.specs.Checks.{refusal}
 use Rattle.ledger.specs.Entry.{region_check}
@@ -12,4 +11,4 @@ pub returns : goal.returns
 returns g c =
     let st : State = state g.B.Allocator.meaning c.args.self.now c.args.region.now in
     let e : refusal (region_check st) ≡ None = search rules in
-    (e, readied st (parts c.args.self.now.allocator) (g.met.B.Allocator.lawful c.args.self.now.allocator.allocator) (long_by st e) c.args.self.now.sure c.args.self.now.limits c.tell.ensures)
+    (e, readied st (g.met.B.Allocator.lawful c.args.self.now.allocator) (long_by st e) (record { sure = c.args.self.now.sure; limits = c.args.self.now.limits }))

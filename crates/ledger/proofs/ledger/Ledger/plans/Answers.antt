@@ -11,4 +11,4 @@ pub returns-in_err-serial : goal.returns-in_err-serial
 returns-in_err-serial g c =
     let st : State = state g.B.Allocator.meaning c.args.self.now c.args.region.now in
     let p = err_from_is_err_and c.from_residual.result c.from_residual.ensures.1 in
-    rw (p.1, p.2) (stops (opening st) (plan_checks c.args.kind c.args.count c.args.claim (max c.args.claim c.args.preferred)) _ c.in_err-serial.ensures)
+    rw (p.1, p.2) (stops (opening st) (plan_checks c.args.terms.kind c.args.count c.args.terms.claim (max c.args.terms.claim c.args.terms.preferred)) _ c.in_err-serial.ensures)

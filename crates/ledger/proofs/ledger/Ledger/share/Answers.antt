@@ -1,17 +1,19 @@
 use Rattle.std.proofs.Common.{not, refl, ap, ◌∙◌}
 use Rattle.std.proofs.lemmas.Result.{err_from_is_err_and}
 use Rattle.book.specs.Held.{lines_of}
-use Rattle.held.specs.Whole.{parts}
 use Rattle.model.specs.Book.{State}
 use Rattle.model.specs.Calls.{Share}
 use Rattle.model.specs.Checks.{makes_from}
 use Rattle.model.specs.Effects.{with_backing}
+use Rattle.ledger.specs.Results.{Grants}
 use Rattle.ledger.specs.View.{state}
 use Rattle.ledger.proofs.Edits.{over_next}
 use Rattle.ledger.proofs.Groups.{unfree}
 use Rattle.ledger.proofs.Hands as link
 use Rattle.ledger.proofs.Ties.{after}
+use Rattle.ledger.proofs.ledger.Ledger.share.Given as given
 use Rattle.ledger.proofs.ledger.Ledger.share.Goals as goal
+use Rattle.ledger.proofs.ledger.Ledger.share.Goals.{After-add}
 
 pub returns-in_err-serial : goal.returns-in_err-serial
 returns-in_err-serial g c =
@@ -22,15 +24,18 @@ returns-in_err-serial g c =
 pub add-requires : goal.add-requires
 add-requires g c =
     let st : State = state g.B.Allocator.meaning c.args.self.now c.args.region.now in
-    link.still_few st.lines (lines_of c.put.new.self) c.in_ok-spot.spot.place c.with_backing-first.result c.put.ensures c.in_ok-serial.ensures.1.few
+    record { few = link.still_few st.lines (lines_of c.put.new.self) c.in_ok-spot.spot.place c.with_backing-first.result c.put.ensures c.in_ok-serial.ensures.1.few; low = c.in_ok-serial.ensures.1.low }
+
+-- what the call did
+granted : (g : given.Over) (c : After-add g) → let st : State = state g.B.Allocator.meaning c.args.self.now c.args.region.now in Grants st (Share c.args.h) c.in_ok-serial.serial (over_next st c.add.new.self.next (lines_of c.add.new.self.book) st.meaning st.bytes)
+granted g c =
+    let st : State = state g.B.Allocator.meaning c.args.self.now c.args.region.now in
+    link.shares st c.args.h c.in_ok-spot.spot c.in_ok-spot.ensures c.in_ok-serial.serial c.in_ok-serial.ensures.1 c.in_ok-serial.ensures.0 c.with_backing-first.result c.with_serial-second.result (lines_of c.put.new.self) c.add.new.self.next (lines_of c.add.new.self.book) (ap (λ b. makes_from c.args.h (not b)) c.requires.shared) (c.with_backing-first.ensures ∙ ap (with_backing c.in_ok-spot.spot.line) c.shared_with.ensures) c.with_serial-second.ensures c.put.ensures c.add.ensures
 
 pub returns : goal.returns
-returns g c =
-    let st : State = state g.B.Allocator.meaning c.args.self.now c.args.region.now in
-    link.shares st (parts c.args.self.now.allocator) c.args.h c.in_ok-spot.spot c.in_ok-spot.ensures c.in_ok-serial.serial c.in_ok-serial.ensures.1 c.in_ok-serial.ensures.0 c.with_backing-first.result c.with_serial-second.result (lines_of c.put.new.self) (lines_of c.add.new.self) (ap (λ b. makes_from c.args.h (not b)) c.requires.shared) (c.with_backing-first.ensures ∙ ap (with_backing c.in_ok-spot.spot.line) c.shared_with.ensures) c.with_serial-second.ensures c.put.ensures c.add.ensures
+returns g c = granted g (goal.at.returns g c).After-add
 
 pub invariant_of-self : goal.invariant_of-self
 invariant_of-self g c =
     let st : State = state g.B.Allocator.meaning c.args.self.now c.args.region.now in
-    after st (parts c.args.self.now.allocator) c.in_ok-spot.ensures.ready (Share c.args.h) c.in_ok-serial.serial (over_next st (lines_of c.add.new.self) st.meaning st.bytes) (parts c.args.self.now.allocator) tt
-    (link.shares st (parts c.args.self.now.allocator) c.args.h c.in_ok-spot.spot c.in_ok-spot.ensures c.in_ok-serial.serial c.in_ok-serial.ensures.1 c.in_ok-serial.ensures.0 c.with_backing-first.result c.with_serial-second.result (lines_of c.put.new.self) (lines_of c.add.new.self) (ap (λ b. makes_from c.args.h (not b)) c.requires.shared) (c.with_backing-first.ensures ∙ ap (with_backing c.in_ok-spot.spot.line) c.shared_with.ensures) c.with_serial-second.ensures c.put.ensures c.add.ensures) c.in_ok-spot.ensures.ready.tie
+    after st c.in_ok-spot.ensures.ready (Share c.args.h) c.in_ok-serial.serial _ tt (granted g (goal.at.invariant_of-self g c).After-add)
