@@ -1,5 +1,6 @@
 // SPDX-License-Identifier: Apache-2.0
 // The checks of the calls, a function for each group: the first check that holds is the refusal.
+// The checks of a line are free functions here, since a method of a type stands in the crate of the type.
 // Works over src/buffer_mut.rs and src/buffer.rs of vortex-buffer 0.90.0.
 #![tactic(auto)]
 

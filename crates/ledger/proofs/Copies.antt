@@ -66,11 +66,11 @@ module _ (m : Meaning) (n : ℕ) (l : Line) (shared : Bool) (c claim : ℕ) (v :
     elements = mul-le-mul_right l.kind.width v.room
 
     pub fitting : Fitting base l n k got
-    fitting = go got refl copy_spaced
+    fitting = go got refl
       where
-        go : (g : Option Block) → got ≡ g → Spaced base k g → Fitting base l n k g
-        go None e s = tt
-        go (Some b) e s = (s, old (block_of l.backing) refl)
+        go : (g : Option Block) → got ≡ g → Fitting base l n k g
+        go None e = tt
+        go (Some b) e = old (block_of l.backing) refl
           where
             old : (q : Option Block) → block_of l.backing ≡ q → Copyable base l n (round_up (base + b.place) k - base) q
             old None d = tt

@@ -1,5 +1,5 @@
 -- Calls that change one line: one argument for all of them.
-use Rattle.std.proofs.Common.{◌≡◌, ℕ, ◌+◌, ◌-◌, ◌*◌, ◌^◌, ◌<◌, ◌≤◌, Bool, true, false, List, [], ◌∷◌, length, Some, None, Option, sym, refl, ap, ◌∙◌, mul-le-mul_right, zero-mul, arith}
+use Rattle.std.proofs.Common.{◌≡◌, ℕ, ◌+◌, ◌-◌, ◌*◌, ◌^◌, ◌<◌, ◌≤◌, Bool, true, false, List, [], ◌∷◌, length, Some, None, Option, sym, refl, ap, ◌∙◌, subst, mul-le-mul_right, zero-mul, arith}
 use Rattle.region.specs.Bytes.{overwrite}
 use Rattle.allocation.specs.declared.block.Block.{Block}
 use Rattle.allocation.specs.declared.fault.Fault.{Fault}
@@ -37,9 +37,16 @@ unfrozen_base st base l Unbacked e = refl
 unfrozen_base st base l (Empty n) e = refl
 unfrozen_base st base l (Owned b) e = ap (λ z. unfrozen (state_with 0 z) l (Owned b)) e
 
+-- the ghost fields of a line in its region
+abbrev pub Places : ℕ → Line → Type 0
+Places base l = record { sits : Sits base l (block_of l.backing); wide : 1 ≤ l.kind.width }
+
 module _ (st : State) (h : Handle) (spot : Spot) (a : Admitted st h spot) where
   pub stands : Stands st.meaning.base spot.line
   stands = a.ready.sure.stands h.serial spot.line a.found
+
+  pub places : (base : ℕ) → base ≡ st.meaning.base → Places base spot.line
+  places base e = record { sits = subst (λ b. Sits b spot.line (block_of spot.line.backing)) (sym e) stands.sits; wide = stands.wide }
 
   -- the bytes of the elements and of the room fit 64 bits
   pub bytes_fit : (spot.line.len * spot.line.kind.width < 2 ^ 64) × (spot.line.capacity * spot.line.kind.width < 2 ^ 64)

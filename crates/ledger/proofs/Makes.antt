@@ -81,11 +81,11 @@ module _ (st : State) (k : Kind) (c claim preferred : ℕ) (plan : Plan) (pl : P
   writable h got m' n extent en ee o = go got refl (spaced h got m' o)
     where
       go : (g : Option Block) → got ≡ g → Spaced plan.base plan.m g → Writable plan.base plan.m g n extent
-      go None e s = s
+      go None e s = tt
       go (Some b) e s =
           let w = obtained st.meaning m' c size got pl.opened.ready.lawful (gets_size got m' o) in
           let inside = w.lawful.within b ((w.blocks b).1 (inl e)) in
-          (s, omega (arith, round_up_high (plan.base + b.place) plan.m s.0, w.sized b e, inside, w.fixed.extent, pl.base, pl.m, pl.opened.ready.long))
+          omega (arith, round_up_high (plan.base + b.place) plan.m s.0, w.sized b e, inside, w.fixed.extent, pl.base, pl.m, pl.opened.ready.long)
 
   module _ (call : Call) (e : brings call ≡ bringing [] true) (o : own st call ≡ plan_checks k c claim (max claim preferred) ++ grant_check st.meaning c size) where
     passing : refusal (checks st (length st.bytes) call) ≡ refusal (asking st.meaning c (asked plan.layout))

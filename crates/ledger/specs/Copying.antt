@@ -4,7 +4,6 @@ use Rattle.allocation.specs.Alignments.{round_up}
 use Rattle.allocation.specs.Meaning.{Meaning, Lawful, Among}
 use Rattle.allocation.specs.declared.block.Block.{Block}
 use Rattle.checks.specs.Groups.{size_checks, grant_check}
-use Rattle.sizes.specs.Numbers.{Spaced}
 use Rattle.model.specs.Book.{block_of, shown}
 use Rattle.model.specs.Calls.{Call, Aligned, AlignedMut, preferred_alignment}
 use Rattle.model.specs.Checks.{Check, request_for}
@@ -16,7 +15,7 @@ use Rattle.ledger.specs.Moving.{Copyable}
 -- the elements may be copied to the first multiple of m in what was got
 abbrev pub Fitting : ℕ → Line → ℕ → ℕ → Option Block → Type 0
 Fitting base l n m None = Unit {0}
-Fitting base l n m (Some b) = Spaced base m (Some b) × Copyable base l n (round_up (base + b.place) m - base) (block_of l.backing)
+Fitting base l n m (Some b) = Copyable base l n (round_up (base + b.place) m - base) (block_of l.backing)
 
 -- the bytes of a copy of a line with room for c elements and a claim
 abbrev pub copy_size : Line → ℕ → ℕ → ℕ

@@ -6,7 +6,6 @@ use Rattle.allocation.specs.Meaning.{Meaning}
 use Rattle.allocation.specs.declared.block.Block.{Block}
 use Rattle.allocation.specs.declared.block.Request.{Request}
 use Rattle.checks.specs.Groups.{below_kind, size_checks}
-use Rattle.sizes.specs.Numbers.{Spaced}
 use Rattle.model.specs.Book.{State}
 use Rattle.model.specs.Checks.{Check, refusal, request_for, not_granted}
 use Rattle.model.specs.Kinds.{SoundKind}
@@ -38,5 +37,5 @@ pub record Planned (st : State) (k : Kind) (c claim preferred : ℕ) (plan : Pla
 
 -- n bytes may be written at the first multiple of m in what was got, in a region of so many bytes
 abbrev pub Writable : ℕ → ℕ → Option Block → ℕ → ℕ → Type 0
-Writable base m None n extent = 1 ≤ m
-Writable base m (Some b) n extent = Spaced base m (Some b) × (round_up (base + b.place) m - base + n ≤ extent)
+Writable base m None n extent = Unit {0}
+Writable base m (Some b) n extent = round_up (base + b.place) m - base + n ≤ extent

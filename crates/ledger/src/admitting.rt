@@ -28,7 +28,7 @@ impl<B: Allocator> Ledger<B> {
             (λ f. refusal (region_check (state B.Allocator.meaning self.now region.now)) ≡ Some f) }
     {
         if region.len() != self.allocator.extent() {
-            return Err(Fault::Alone(Refusal::RegionDiffers));
+            return Err(Refusal::RegionDiffers.into());
         }
         Ok(())
     }
@@ -40,12 +40,14 @@ impl<B: Allocator> Ledger<B> {
             (λ f. refusal (entry (state B.Allocator.meaning self.now region.now) h) ≡ Some f) }
     {
         self.knows_region(region)?;
-        let Some(place) = self.register.book.position(h.serial) else {
-            return Err(Fault::Alone(Refusal::UnknownHandle));
-        };
+        let place = self
+            .register
+            .book
+            .position(h.serial)
+            .ok_or(Refusal::UnknownHandle)?;
         let line = self.register.book.line(place);
         if !knows(self.number, h, line) {
-            return Err(Fault::Alone(Refusal::UnknownHandle));
+            return Err(Refusal::UnknownHandle.into());
         }
         Ok(Spot { place, line })
     }

@@ -3,35 +3,24 @@
 // Works over `aligned` of src/buffer_mut.rs and `aligned` and `into_mut` of src/buffer.rs of vortex-buffer 0.90.0.
 ghost use Rattle.std.specs.Prelude.{◌≡◌, true, false, length, Some, None, MatchResult};
 ghost use Rattle.allocation.specs.Asked.{bytes_of};
-ghost use Rattle.ledger.specs.Copying.{Fitting, Copying, Copied, aligning, copy_checks};
+ghost use Rattle.ledger.specs.Copying.{Copying, Copied, aligning, copy_checks};
 ghost use Rattle.ledger.specs.Results.{Done};
 ghost use Rattle.ledger.specs.View.{state};
-ghost use Rattle.model.specs.Book.{shown};
 ghost use Rattle.model.specs.Calls.{AlignedMut, Aligned, IntoMut};
 ghost use Rattle.model.specs.Checks.{refusal};
-ghost use Rattle.model.specs.Effects.{written_in};
 
 use crate::getting::obtain;
 use crate::giving::give_back;
 use crate::ledger::Ledger;
-use crate::moving::copy_shown;
+use crate::moving::copy_in;
 use allocation::alignment::{Alignment, DEFAULT_ALIGNMENT};
 use allocation::allocation::Allocator;
-use allocation::block::Block;
 use allocation::fault::Fault;
 use checks::{block_layout, fits_kind};
 use model::line::{Handle, Line};
-use sizes::{copied_into, is_aligned, place_in, unfrozen};
-
-// Copies what the line shows to the first multiple of m in what was got.
-pub fn copy_in(region: &mut [u8], base: usize, line: Line, m: usize, got: Option<Block>)
-    requires { Fitting base line (length region.old) m got }
-    ensures { region.new ≡ written_in base m got (shown base line region.old) region.old }
-{
-    if let Some(block) = got {
-        copy_shown(region, base, line, place_in(base, m, block));
-    }
-}
+use sizes::placed::Placed;
+use sizes::seat::Seat;
+use sizes::{copied_into, is_aligned};
 
 // Gets a block for so many elements, copies what the line shows into it, and gives back the block that is left: none while another handle shares it.
 // Then the line as it stands in its own block, at the claim.
@@ -54,9 +43,10 @@ pub fn copy_out<B: Allocator>(
     let layout = block_layout(line.kind.width, count, m)?;
     let base = allocator.base();
     let got = obtain(allocator, region, count, layout)?;
-    copy_in(region, base, line, m, got);
+    let seat = Seat { base, m, got };
+    copy_in(region, line, seat);
     give_back(allocator, region, line.block_left(shared))?;
-    Ok(copied_into(base, line, line.mutable, claim, m, line.capacity, got))
+    Ok(copied_into(line, line.mutable, claim, line.capacity, seat))
 }
 
 impl<B: Allocator> Ledger<B> {
@@ -117,15 +107,18 @@ impl<B: Allocator> Ledger<B> {
             .book
             .shares(spot.line.backing, spot.line.serial);
         if !shared {
-            self.register
-                .book
-                .put(spot.place, unfrozen(base, spot.line));
+            let placed = Placed {
+                base,
+                line: spot.line,
+            };
+            self.register.book.put(spot.place, placed.unfrozen());
             return Ok(());
         }
         let len = spot.line.len;
         let claim = spot.line.claim;
         let line = copy_out(&mut self.allocator, region, spot.line, shared, len, claim)?;
-        self.register.book.put(spot.place, unfrozen(base, line));
+        let placed = Placed { base, line };
+        self.register.book.put(spot.place, placed.unfrozen());
         Ok(())
     }
 }

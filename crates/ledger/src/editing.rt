@@ -2,7 +2,7 @@
 // Calls that change one line, or one element, and nothing else.
 // Works over `truncate`, `clear`, `freeze` and `as_mut_slice` of src/buffer_mut.rs and `clear`, `into_byte_buffer`, `from_byte_buffer_aligned`,
 // `try_into_mut` and `ensure_aligned` of src/buffer.rs of vortex-buffer 0.90.0.
-ghost use Rattle.std.specs.Prelude.{◌≡◌, true, false, not, ◌&&◌, length};
+ghost use Rattle.std.specs.Prelude.{◌≡◌, true, false, not, ◌&&◌};
 ghost use Rattle.allocation.specs.Alignments.{IsAlignment};
 ghost use Rattle.allocation.specs.Asked.{bytes_of};
 ghost use Rattle.ledger.specs.Changes.{Asks, Changed, Keeps};
@@ -19,7 +19,8 @@ use checks::{index_within, regroups, stays_aligned, unshared};
 use element::Element;
 use element::writing::write_one;
 use model::line::{Handle, Kind, Line};
-use sizes::{element_place, from_bytes, into_bytes, unfrozen};
+use sizes::placed::Placed;
+use sizes::{element_place, from_bytes, into_bytes};
 
 impl<B: Allocator> Ledger<B> {
     // Changes the line of a handle, where neither the handle's checks nor the change refuse.
@@ -100,10 +101,11 @@ impl<B: Allocator> Ledger<B> {
                 .book
                 .shares(spot.line.backing, spot.line.serial),
         )?;
-        let base = self.allocator.base();
-        self.register
-            .book
-            .put(spot.place, unfrozen(base, spot.line));
+        let placed = Placed {
+            base: self.allocator.base(),
+            line: spot.line,
+        };
+        self.register.book.put(spot.place, placed.unfrozen());
         Ok(())
     }
 

@@ -12,7 +12,7 @@ use allocation::block::Block;
 use allocation::fault::Fault;
 use allocation::layout::Layout;
 use element::values::Values;
-use sizes::place_in;
+use sizes::seat::Seat;
 
 // Gets a block for so many elements; none for no elements.
 pub fn obtain<B: Allocator>(
@@ -60,12 +60,12 @@ pub fn obtain_zeroed<B: Allocator>(
     Ok(Some(allocation.block))
 }
 
-// Writes the values at the first multiple of m in what was got.
-pub fn write_in<V: Values>(region: &mut [u8], base: usize, m: usize, got: Option<Block>, values: &V)
-    requires { Writable base m got (length (V.Values.patterns values.now) * V.Values.width) (length region.old) }
-    ensures { region.new ≡ written_in base m got (V.Values.bytes values.now) region.old }
+// Writes the values at a seat; nothing where there is no block.
+pub fn write_in<V: Values>(region: &mut [u8], seat: Seat, values: &V)
+    requires { Writable seat.base seat.m seat.got (length (V.Values.patterns values.now) * V.Values.width) (length region.old) }
+    ensures { region.new ≡ written_in seat.base seat.m seat.got (V.Values.bytes values.now) region.old }
 {
-    if let Some(block) = got {
-        values.write(region, place_in(base, m, block));
+    if let Some(place) = seat.place() {
+        values.write(region, place);
     }
 }

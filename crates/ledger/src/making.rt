@@ -2,9 +2,9 @@
 // The makings of new handles.
 // Works over `with_capacity_preferred_aligned_in`, `zeroed_preferred_aligned_in`, `copy_from_preferred_aligned_in` and `full_in` of src/buffer_mut.rs,
 // and `empty_aligned` of src/buffer.rs of vortex-buffer 0.90.0.
-ghost use Rattle.std.specs.Prelude.{◌≡◌, ◌≤◌, max, ◌++◌, map, length, replicate, Some, MatchResult};
+ghost use Rattle.std.specs.Prelude.{◌≡◌, max, ◌++◌, map, replicate, Some, MatchResult};
 ghost use Rattle.allocation.specs.Asked.{bytes_of};
-ghost use Rattle.sizes.specs.Numbers.{Spaced, state_with};
+ghost use Rattle.sizes.specs.Numbers.{state_with};
 ghost use Rattle.ledger.specs.Entry.{opening};
 ghost use Rattle.ledger.specs.Making.{Planned, plan_checks};
 ghost use Rattle.ledger.specs.Results.{Opens};
@@ -20,29 +20,19 @@ use crate::plan::Plan;
 use crate::terms::Terms;
 use allocation::alignment::Alignment;
 use allocation::allocation::Allocator;
-use allocation::block::Block;
 use allocation::fault::Fault;
 use checks::{fits_kind, making};
 use element::Element;
 use element::values::{Repeated, Values};
 use model::line::{Kind, Line};
 use sizes::made;
+use sizes::seat::Seat;
 
-// The line of a making with n elements in what was got.
-pub fn planned_line(plan: Plan, terms: Terms, mutable: bool, n: usize, got: Option<Block>) -> Line
-    requires { Spaced plan.base plan.m got }
-    ensures { result ≡ made_as mutable (made (state_with plan.serial plan.base) terms.kind terms.claim plan.m n got) }
+// The line of a making with n elements at a seat.
+pub fn planned_line(serial: u32, terms: Terms, mutable: bool, n: usize, seat: Seat) -> Line
+    ensures { result ≡ made_as mutable (made (state_with serial seat.base) terms.kind terms.claim seat.m n seat.got) }
 {
-    made(
-        plan.serial,
-        terms.kind,
-        terms.claim,
-        plan.m,
-        n,
-        plan.base,
-        got,
-    )
-    .made_as(mutable)
+    made(serial, terms.kind, terms.claim, n, seat).made_as(mutable)
 }
 
 impl<B: Allocator> Ledger<B> {
@@ -77,7 +67,13 @@ impl<B: Allocator> Ledger<B> {
     {
         let plan = self.plans(region, terms, capacity)?;
         let got = obtain(&mut self.allocator, region, capacity, plan.layout)?;
-        self.register.add(planned_line(plan, terms, true, 0, got));
+        let seat = Seat {
+            base: plan.base,
+            m: plan.m,
+            got,
+        };
+        self.register
+            .add(planned_line(plan.serial, terms, true, 0, seat));
         Ok(plan.serial)
     }
 
@@ -93,8 +89,13 @@ impl<B: Allocator> Ledger<B> {
     {
         let plan = self.plans(region, terms, len)?;
         let got = obtain_zeroed(&mut self.allocator, region, len, plan.layout)?;
+        let seat = Seat {
+            base: plan.base,
+            m: plan.m,
+            got,
+        };
         self.register
-            .add(planned_line(plan, terms, mutable, len, got));
+            .add(planned_line(plan.serial, terms, mutable, len, seat));
         Ok(plan.serial)
     }
 
@@ -112,8 +113,13 @@ impl<B: Allocator> Ledger<B> {
         let n = values.count();
         let plan = self.plans(region, terms, n)?;
         let got = obtain(&mut self.allocator, region, n, plan.layout)?;
-        let line = planned_line(plan, terms, mutable, n, got);
-        write_in(region, plan.base, plan.m, got, values);
+        let seat = Seat {
+            base: plan.base,
+            m: plan.m,
+            got,
+        };
+        let line = planned_line(plan.serial, terms, mutable, n, seat);
+        write_in(region, seat, values);
         self.register.add(line);
         Ok(plan.serial)
     }

@@ -3,10 +3,11 @@
 // Works over `reserve_allocate` of src/buffer_mut.rs and `Allocation::grow` of src/allocation.rs of vortex-buffer 0.90.0.
 ghost use Rattle.std.specs.Prelude.{◌≡◌, ◌≤◌, true, false, length, Some, MatchResult};
 ghost use Rattle.allocation.specs.Asked.{asked};
+ghost use Rattle.ledger.specs.Copying.{Fitting};
 ghost use Rattle.ledger.specs.Moving.{Copyable, Movable, Moved, place_at, moving_granted};
 ghost use Rattle.model.specs.Book.{block_of, shown};
 ghost use Rattle.model.specs.Checks.{not_granted};
-ghost use Rattle.model.specs.Effects.{TakesNew, Grown};
+ghost use Rattle.model.specs.Effects.{TakesNew, Grown, written_in};
 ghost use Rattle.region.specs.Bytes.{overwrite};
 
 use crate::giving::give_back;
@@ -16,7 +17,8 @@ use allocation::fault::Fault;
 use allocation::layout::Layout;
 use model::line::Line;
 use region::move_within;
-use sizes::{grown_place, grows_from, place_in};
+use sizes::seat::Seat;
+use sizes::{grown_place, grows_from};
 
 // Copies what the line shows to a place of the region.
 pub fn copy_shown(region: &mut [u8], base: usize, line: Line, place: usize)
@@ -25,6 +27,16 @@ pub fn copy_shown(region: &mut [u8], base: usize, line: Line, place: usize)
 {
     if let Some(_) = line.backing.block() {
         move_within(region, line.start - base, place, line.len * line.kind.width);
+    }
+}
+
+// Copies what the line shows to a seat; nothing where there is no block.
+pub fn copy_in(region: &mut [u8], line: Line, seat: Seat)
+    requires { Fitting seat.base line (length region.old) seat.m seat.got }
+    ensures { region.new ≡ written_in seat.base seat.m seat.got (shown seat.base line region.old) region.old }
+{
+    if let Some(place) = seat.place() {
+        copy_shown(region, seat.base, line, place);
     }
 }
 
@@ -44,8 +56,12 @@ pub fn take_new<B: Allocator>(
 {
     let base = allocator.base();
     let allocation = Allocation::allocate(allocator, region, layout)?;
-    let place = place_in(base, line.claim, allocation.block);
-    copy_shown(region, base, line, place);
+    let seat = Seat {
+        base,
+        m: line.claim,
+        got: Some(allocation.block),
+    };
+    copy_in(region, line, seat);
     give_back(allocator, region, line.backing.block())?;
     Ok(allocation.block)
 }
@@ -70,7 +86,12 @@ pub fn grow_into<B: Allocator>(
     let base = allocator.base();
     let mut allocation = Allocation { block };
     allocation.grow(allocator, region, layout)?;
-    let place = place_in(base, line.claim, allocation.block);
+    let seat = Seat {
+        base,
+        m: line.claim,
+        got: Some(allocation.block),
+    };
+    let place = seat.start() - base;
     let from = grown_place(allocation.block.place, base, line.start, block);
     move_within(region, from, place, line.len * line.kind.width);
     Ok(allocation.block)

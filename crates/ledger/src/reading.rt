@@ -4,10 +4,9 @@
 ghost use Rattle.std.specs.Prelude.{◌≡◌, ◌+◌, ◌*◌, ◌^◌, ◌<◌, ◌≤◌, length, Some, None, IfOk, MatchResult};
 ghost use Rattle.ledger.specs.Results.{Shown, Tells};
 ghost use Rattle.ledger.specs.View.{state};
-ghost use Rattle.model.specs.Book.{block_of, line};
+ghost use Rattle.model.specs.Book.{line};
 ghost use Rattle.model.specs.Calls.{Read};
 ghost use Rattle.model.specs.Checks.{refusal, checks};
-ghost use Rattle.model.specs.Invariant.{Sits};
 ghost use Rattle.model.specs.Reads.{alignment_of, capacity_of, is_aligned_to, is_empty, len_of, slice_bytes, shown_place};
 ghost use Rattle.region.specs.Bytes.{part};
 
@@ -15,16 +14,16 @@ use crate::ledger::Ledger;
 use allocation::allocation::Allocator;
 use allocation::fault::Fault;
 use model::line::{Handle, Line};
-use sizes::{is_aligned, shown_place};
+use sizes::is_aligned;
+use sizes::placed::Placed;
 
 // The part of the region that a line shows.
-pub fn shown_in(region: &[u8], base: usize, line: Line) -> &[u8]
-    requires sits { Sits base line (block_of line.backing) }
-    requires inside { (line.len * line.kind.width < 2 ^ 64) × (shown_place base line + line.len * line.kind.width ≤ length region.now) }
-    ensures { result.now ≡ part (shown_place base line) (line.len * line.kind.width) region.now }
+pub fn shown_in(region: &[u8], placed: Placed) -> &[u8]
+    requires { (placed.line.len * placed.line.kind.width < 2 ^ 64) × (shown_place placed.base placed.line + placed.line.len * placed.line.kind.width ≤ length region.now) }
+    ensures { result.now ≡ part (shown_place placed.base placed.line) (placed.line.len * placed.line.kind.width) region.now }
 {
-    let from = shown_place(base, line);
-    &region[from..from + line.len * line.kind.width]
+    let from = placed.shown_place();
+    &region[from..from + placed.line.len * placed.line.kind.width]
 }
 
 impl<B: Allocator> Ledger<B> {
@@ -80,7 +79,10 @@ impl<B: Allocator> Ledger<B> {
         ensures place { IfOk result (λ s. Shown (state B.Allocator.meaning self.now region.now) h s.now) }
     {
         let spot = self.admits(region, h)?;
-        let base = self.allocator.base();
-        Ok(shown_in(region, base, spot.line))
+        let placed = Placed {
+            base: self.allocator.base(),
+            line: spot.line,
+        };
+        Ok(shown_in(region, placed))
     }
 }

@@ -14,7 +14,7 @@ use allocation::allocation::Allocator;
 use allocation::fault::Fault;
 use checks::room_for;
 use model::line::Handle;
-use sizes::{has_room, round_up};
+use sizes::has_room;
 
 impl<B: Allocator> Ledger<B> {
     // Makes room for more elements; then the handle's line as it is now.
@@ -29,7 +29,7 @@ impl<B: Allocator> Ledger<B> {
         let room = room_for(spot.line, more)?;
         let base = self.allocator.base();
         let block = relocate(&mut self.allocator, region, spot.line, room.layout)?;
-        let start = round_up(base + block.place, spot.line.claim);
+        let start = (base + block.place).next_multiple_of(spot.line.claim);
         let capacity = room.bytes / spot.line.kind.width;
         let line = spot.line.relocated(block, start, capacity);
         self.register.book.put(spot.place, line);

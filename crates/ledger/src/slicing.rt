@@ -35,7 +35,8 @@ impl<B: Allocator> Ledger<B> {
         let serial = self.register.next_serial()?;
         let claim = claim.of(spot.line);
         let range = slices(spot.line, first, last, claim)?;
-        self.register.add(slice_line(serial, spot.line, range.start, range.end, claim));
+        self.register
+            .add(slice_line(serial, spot.line, range, claim));
         Ok(serial)
     }
 

@@ -1,119 +1,49 @@
 // SPDX-License-Identifier: Apache-2.0
 // Sizes, starts and capacities, and the lines that are made from them: every function equals a definition.
+// What is asked of a line alone is a free function here, since a method of a type stands in the crate of the type.
 // Works over src/buffer_mut.rs and src/buffer.rs of vortex-buffer 0.90.0.
 #![tactic(auto)]
 
-ghost use Rattle.std.specs.Prelude.{◌≡◌, ◌+◌, ◌-◌, ◌*◌, ◌/◌, ◌%◌, ◌^◌, ◌<◌, ◌≤◌, max, true, false, ◌||◌, Some, None, MatchOption, nat_lt};
-ghost use Rattle.allocation.specs.Alignments.{round_up};
-ghost use Rattle.sizes.specs.Numbers.{Spaced, state_with};
-ghost use Rattle.model.specs.Book.{block_of, usable};
+ghost use Rattle.std.specs.Prelude.{◌≡◌, ◌+◌, ◌-◌, ◌*◌, ◌/◌, ◌^◌, ◌<◌, ◌≤◌, max, true, false, ◌||◌, Some, MatchOption, nat_lt};
+ghost use Rattle.sizes.specs.Numbers.{state_with};
 ghost use Rattle.model.specs.Checks.{enough, smaller, is_aligned};
-ghost use Rattle.model.specs.Effects.{start_in, capacity_in, made, copied_into, regrouped, slice_line, unfrozen};
-ghost use Rattle.model.specs.Invariant.{Sits};
+ghost use Rattle.model.specs.Effects.{made, copied_into, regrouped, slice_line};
 ghost use Rattle.model.specs.Kinds.{byte};
-ghost use Rattle.model.specs.Reads.{shown_place};
 
+pub mod placed;
+pub mod seat;
+
+use crate::seat::Seat;
 use allocation::alignment::DEFAULT_ALIGNMENT;
 use allocation::block::Block;
 use model::line::{Backing, Kind, Line};
+use std::ops::Range;
 
-// How far n lies below the first multiple of m at or above it.
-fn padding(n: usize, m: usize) -> usize
-    requires { 1 ≤ m }
-    ensures value { result ≡ (m - n % m) % m }
-    ensures below { result < m }
-{
-    (m - n % m) % m
-}
-
-// The first multiple of m at or above n.
-pub fn round_up(n: usize, m: usize) -> usize
-    requires { (1 ≤ m) × (n + m < 2 ^ 64) }
-    ensures value { result ≡ round_up n m }
-    ensures low { n ≤ result }
-    ensures high { result < n + m }
-{
-    n + padding(n, m)
-}
-
-// Where elements start in what was got: at the first multiple of m in the block, and at m without one.
-pub fn start_in(base: usize, m: usize, got: Option<Block>) -> usize
-    requires { Spaced base m got }
-    ensures { result ≡ start_in base m got }
-{
-    match got {
-        Some(block) => round_up(base + block.place, m),
-        None => m,
-    }
-}
-
-// The same as a place in the region.
-pub fn place_in(base: usize, m: usize, block: Block) -> usize
-    requires { Spaced base m (Some block) }
-    ensures { result ≡ round_up (base + block.place) m - base }
-{
-    round_up(base + block.place, m) - base
-}
-
-// How many elements of a width what was got holds from there on.
-pub fn capacity_in(base: usize, m: usize, width: usize, got: Option<Block>) -> usize
-    requires space { Spaced base m got }
-    requires wide { 1 ≤ width }
-    ensures { result ≡ capacity_in base m width got }
-{
-    match got {
-        Some(block) => {
-            let from = base + block.place;
-            let offset = round_up(from, m) - from;
-            (block.size - offset) / width
-        }
-        None => 0,
-    }
-}
-
-// A new mutable line with n elements in what was got.
-pub fn made(
-    serial: u32,
-    kind: Kind,
-    claim: usize,
-    m: usize,
-    n: usize,
-    base: usize,
-    got: Option<Block>,
-) -> Line
-    requires space { Spaced base m got }
-    requires wide { 1 ≤ kind.width }
-    ensures { result ≡ made (state_with serial base) kind claim m n got }
+// A new mutable line with n elements at a seat.
+pub fn made(serial: u32, kind: Kind, claim: usize, n: usize, seat: Seat) -> Line
+    requires { 1 ≤ kind.width }
+    ensures { result ≡ made (state_with serial seat.base) kind claim seat.m n seat.got }
 {
     Line {
         serial,
         mutable: true,
         kind,
-        backing: Backing::new(got),
-        start: start_in(base, m, got),
+        backing: Backing::new(seat.got),
+        start: seat.start(),
         len: n,
-        capacity: capacity_in(base, m, kind.width, got),
+        capacity: seat.capacity(kind.width),
         claim,
     }
 }
 
-// The line with its elements copied into what was got.
-pub fn copied_into(
-    base: usize,
-    line: Line,
-    mutable: bool,
-    claim: usize,
-    m: usize,
-    capacity: usize,
-    got: Option<Block>,
-) -> Line
-    requires { Spaced base m got }
-    ensures { result ≡ copied_into base line mutable claim m capacity got }
+// The line with its elements copied to a seat.
+pub fn copied_into(line: Line, mutable: bool, claim: usize, capacity: usize, seat: Seat) -> Line
+    ensures { result ≡ copied_into seat.base line mutable claim seat.m capacity seat.got }
 {
     Line {
         mutable,
-        backing: Backing::new(got),
-        start: start_in(base, m, got),
+        backing: Backing::new(seat.got),
+        start: seat.start(),
         capacity,
         claim,
         ..line
@@ -163,17 +93,6 @@ pub fn element_place(base: usize, line: Line, i: usize) -> usize
     line.start - base + i * line.kind.width
 }
 
-// Where the part that a line shows starts in the region.
-pub fn shown_place(base: usize, line: Line) -> usize
-    requires { Sits base line (block_of line.backing) }
-    ensures { result ≡ shown_place base line }
-{
-    match line.backing.block() {
-        Some(_) => line.start - base,
-        None => 0,
-    }
-}
-
 // Whether the start is a multiple of an alignment.
 pub fn is_aligned(line: Line, align: usize) -> bool
     ensures { result ≡ is_aligned line align }
@@ -203,44 +122,21 @@ pub fn from_bytes(line: Line, kind: Kind, claim: usize) -> Line
     line.regrouped(kind, line.len * line.kind.width / kind.width, 0, claim)
 }
 
-// The line of a slice, from one element up to another; an empty one has no backing.
-pub fn slice_line(serial: u32, line: Line, begin: usize, end: usize, claim: usize) -> Line
-    requires { line.start + begin * line.kind.width < 2 ^ 64 }
-    ensures { result ≡ slice_line (nat_lt begin end) (state_with serial 0) line begin (end - begin) claim }
+// The line of a slice on a range of the elements; an empty one has no backing.
+pub fn slice_line(serial: u32, line: Line, range: Range<usize>, claim: usize) -> Line
+    requires { line.start + range.start * line.kind.width < 2 ^ 64 }
+    ensures { result ≡ slice_line (nat_lt range.start range.end) (state_with serial 0) line range.start (range.end - range.start) claim }
 {
-    if begin < end {
-        Line {
-            serial,
-            mutable: false,
-            start: line.start + begin * line.kind.width,
-            len: end - begin,
-            capacity: 0,
-            claim,
-            ..line
-        }
-    } else {
-        Line::unbacked(serial, line.kind, claim)
+    if range.is_empty() {
+        return Line::unbacked(serial, line.kind, claim);
     }
-}
-
-// How many elements a block holds from a line's start on.
-pub fn room_behind(base: usize, line: Line, block: Block) -> usize
-    requires sits { Sits base line (Some block) }
-    requires wide { 1 ≤ line.kind.width }
-    ensures { result ≡ (usable block - (line.start - (base + block.place))) / line.kind.width }
-{
-    (block.size - (line.start - (base + block.place))) / line.kind.width
-}
-
-// A shared line that becomes mutable where it stands, with all the room behind its start.
-pub fn unfrozen(base: usize, line: Line) -> Line
-    requires sits { Sits base line (block_of line.backing) }
-    requires wide { 1 ≤ line.kind.width }
-    ensures { result ≡ unfrozen (state_with 0 base) line line.backing }
-{
-    match line.backing {
-        Backing::Unbacked => Line::empty(line.serial, line.kind, line.claim),
-        Backing::Empty(_) => line.with_state(true, 0),
-        Backing::Owned(block) => line.with_state(true, room_behind(base, line, block)),
+    Line {
+        serial,
+        mutable: false,
+        start: line.start + range.start * line.kind.width,
+        len: range.len(),
+        capacity: 0,
+        claim,
+        ..line
     }
 }

@@ -3,4 +3,4 @@ use Rattle.sizes.proofs.copied_into.Goals as goal
 
 pub returns : goal.returns
 unfolding copied_into
-returns c = rw (c.new.ensures, c.start_in.ensures)
+returns c = rw (c.new.ensures, c.start.ensures)

@@ -34,10 +34,10 @@ returns-in_err-give_back g c =
     absurd (link.left_goes m (length c.args.region.now) c.args.line c.args.shared c.args.count c.args.claim c.requires.copying c.base-base.result c.max-m.result c.base-base.ensures c.max-m.ensures (asked c.in_ok-layout.layout) c.in_ok-layout.ensures.0 c.in_ok-got.got _ c.in_ok-got.ensures.1
     (length c.copy_in.new.region) c.block_left.result _ c.copy_in.auto.region c.block_left.ensures c.in_err-give_back.ensures.0)
 
-pub copied_into-requires : goal.copied_into-requires
-copied_into-requires g c =
+pub invariant_of-seat : goal.invariant_of-seat
+invariant_of-seat g c =
     let m : Meaning = g.B.Allocator.meaning c.args.allocator.now in
-    link.copy_spaced m (length c.args.region.now) c.args.line c.args.shared c.args.count c.args.claim c.requires.copying c.base-base.result c.max-m.result c.base-base.ensures c.max-m.ensures (asked c.in_ok-layout.layout) c.in_ok-layout.ensures.0 c.in_ok-got.got _ c.in_ok-got.ensures.1
+    record { spaced = link.copy_spaced m (length c.args.region.now) c.args.line c.args.shared c.args.count c.args.claim c.requires.copying c.base-base.result c.max-m.result c.base-base.ensures c.max-m.ensures (asked c.in_ok-layout.layout) c.in_ok-layout.ensures.0 c.in_ok-got.got _ c.in_ok-got.ensures.1 }
 
 pub returns : goal.returns
 returns g c =

@@ -13,29 +13,29 @@ returns-in_err-allocation g c =
     let r = alloc_refused m (length c.args.region.now) c.args.line (asked c.args.layout) c.requires _ b.0 in
     rw (p.1, p.2) (r.0, r.1, b.1, refl)
 
-pub place_in-place-requires : goal.place_in-place-requires
-place_in-place-requires g c =
+pub invariant_of-seat : goal.invariant_of-seat
+invariant_of-seat g c =
     let m : Meaning = g.B.Allocator.meaning c.args.allocator.now in
     let x = c.in_ok-allocation.ensures.outcome.1 in
-    spaced_in m (length c.args.region.now) c.args.line (asked c.args.layout) c.requires c.in_ok-allocation.allocation.block c.base-base.result x.size (taken_within m (asked c.args.layout) c.in_ok-allocation.allocation.block _ x) c.base-base.ensures
+    record { spaced = spaced_in m (length c.args.region.now) c.args.line (asked c.args.layout) c.requires c.in_ok-allocation.allocation.block c.base-base.result x.size (taken_within m (asked c.args.layout) c.in_ok-allocation.allocation.block _ x) c.base-base.ensures }
 
-pub copy_shown-requires : goal.copy_shown-requires
-copy_shown-requires g c =
+pub copy_in-requires : goal.copy_in-requires
+copy_in-requires g c =
     let m : Meaning = g.B.Allocator.meaning c.args.allocator.now in
     let x = c.in_ok-allocation.ensures.outcome.1 in
-    copyable m (length c.args.region.now) c.args.line (asked c.args.layout) c.requires c.in_ok-allocation.allocation.block c.base-base.result c.place_in-place.result x.size (taken_within m (asked c.args.layout) c.in_ok-allocation.allocation.block _ x) c.base-base.ensures c.place_in-place.ensures
+    copyable m (length c.args.region.now) c.args.line (asked c.args.layout) c.requires c.in_ok-allocation.allocation.block c.base-base.result _ x.size (taken_within m (asked c.args.layout) c.in_ok-allocation.allocation.block _ x) c.base-base.ensures refl
 
 pub returns-in_err-give_back : goal.returns-in_err-give_back
 returns-in_err-give_back g c =
     let m : Meaning = g.B.Allocator.meaning c.args.allocator.now in
-    absurd (old_goes m (length c.args.region.now) c.args.line (asked c.args.layout) c.requires (length c.copy_shown.new.region) c.in_ok-allocation.allocation.block (g.B.Allocator.meaning c.allocate.new.allocator) c.block.result _
-    c.copy_shown.auto.region c.in_ok-allocation.ensures.outcome.1 c.block.ensures c.in_err-give_back.ensures.0)
+    absurd (old_goes m (length c.args.region.now) c.args.line (asked c.args.layout) c.requires (length c.copy_in.new.region) c.in_ok-allocation.allocation.block (g.B.Allocator.meaning c.allocate.new.allocator) c.block.result _
+    c.copy_in.auto.region c.in_ok-allocation.ensures.outcome.1 c.block.ensures c.in_err-give_back.ensures.0)
 
 pub returns : goal.returns
 returns g c =
     let m : Meaning = g.B.Allocator.meaning c.args.allocator.now in
     let x = c.in_ok-allocation.ensures.outcome in (
       alloc_granted m (length c.args.region.now) c.args.line (asked c.args.layout) c.requires x.0,
-      taken_by m (length c.args.region.now) c.args.line (asked c.args.layout) c.requires c.in_ok-allocation.allocation.block c.base-base.result c.place_in-place.result (g.B.Allocator.meaning c.allocate.new.allocator) _ c.block.result c.args.region.now c.copy_shown.new.region
-          c.base-base.ensures c.place_in-place.ensures c.block.ensures x.1 c.in_ok-give_back.ensures c.copy_shown.ensures,
+      taken_by m (length c.args.region.now) c.args.line (asked c.args.layout) c.requires c.in_ok-allocation.allocation.block c.base-base.result _ (g.B.Allocator.meaning c.allocate.new.allocator) _ c.block.result c.args.region.now c.copy_in.new.region
+          c.base-base.ensures refl c.block.ensures x.1 c.in_ok-give_back.ensures c.copy_in.ensures,
     )

@@ -19,11 +19,10 @@ use Rattle.ledger.proofs.ledger.Ledger.into_mut.Given as given
 use Rattle.ledger.proofs.ledger.Ledger.into_mut.Goals as goal
 use Rattle.ledger.proofs.ledger.Ledger.into_mut.Goals.{After-put, After-put-2}
 
-pub unfrozen-requires : goal.unfrozen-requires
-unfrozen-requires g c =
+pub invariant_of-placed : goal.invariant_of-placed
+invariant_of-placed g c =
     let st : State = state g.B.Allocator.meaning c.args.self.now c.args.region.now in
-    let s = edits.stands st c.args.h c.in_ok-spot.spot c.in_ok-spot.ensures in
-    record { sits = subst (λ b. Sits b c.in_ok-spot.spot.line (block_of c.in_ok-spot.spot.line.backing)) (sym c.base-base.ensures) s.sits; wide = s.wide }
+    edits.places st c.args.h c.in_ok-spot.spot c.in_ok-spot.ensures c.base-base.result c.base-base.ensures
 
 pub copy_out-requires : goal.copy_out-requires
 copy_out-requires g c =
@@ -41,8 +40,8 @@ returns-in_err-line g c =
       λ i. record { number = st.number; next = st.next; lines = st.lines; meaning = b.1 i; bytes = b.2 i },
     )
 
-pub unfrozen-requires-2 : goal.unfrozen-requires-2
-unfrozen-requires-2 g c =
+pub invariant_of-placed-2 : goal.invariant_of-placed-2
+invariant_of-placed-2 g c =
     let st : State = state g.B.Allocator.meaning c.args.self.now c.args.region.now in
     let l : Line = c.in_ok-spot.spot.line in
     let s = edits.stands st c.args.h c.in_ok-spot.spot c.in_ok-spot.ensures in

@@ -38,10 +38,10 @@ obtain-requires-clause-some g c =
     let st : State = state g.B.Allocator.meaning c.args.self.now c.args.region.now in
     asks_long st c.args.terms.kind c.count-n.result c.args.terms.claim c.args.terms.preferred c.in_ok-plan.plan c.in_ok-plan.ensures (claims_one c.args.terms.fair)
 
-pub planned_line-line-requires : goal.planned_line-line-requires
-planned_line-line-requires g c =
+pub invariant_of-seat : goal.invariant_of-seat
+invariant_of-seat g c =
     let st : State = state g.B.Allocator.meaning c.args.self.now c.args.region.now in
-    spaced st c.args.terms.kind c.count-n.result c.args.terms.claim c.args.terms.preferred c.in_ok-plan.plan c.in_ok-plan.ensures (claims_one c.args.terms.fair) c.in_ok-got.got (g.B.Allocator.meaning c.obtain.new.allocator) c.in_ok-got.ensures.1
+    record { spaced = spaced st c.args.terms.kind c.count-n.result c.args.terms.claim c.args.terms.preferred c.in_ok-plan.plan c.in_ok-plan.ensures (claims_one c.args.terms.fair) c.in_ok-got.got (g.B.Allocator.meaning c.obtain.new.allocator) c.in_ok-got.ensures.1 }
 
 pub write_in-requires : goal.write_in-requires
 write_in-requires g c =

@@ -1,6 +1,8 @@
-use Rattle.std.proofs.Common.{Some, Option, sym, refl, ap, ◌∙◌, arith}
+use Rattle.std.proofs.Common.{◌+◌, Some, Option, sym, refl, ap, ◌∙◌, arith}
 use Rattle.std.proofs.lemmas.Result.{err_from_is_err_and}
+use Rattle.allocation.specs.Alignments.{round_up}
 use Rattle.allocation.specs.Asked.{asked}
+use Rattle.allocation.proofs.Rounding.{round_up_high}
 use Rattle.book.specs.Held.{lines_of}
 use Rattle.model.specs.Book.{State}
 use Rattle.model.specs.Calls.{Reserve}
@@ -41,12 +43,14 @@ returns-in_err-block g c =
       λ i. record { number = st.number; next = st.next; lines = st.lines; meaning = b.2 i; bytes = b.3 i },
     )
 
-pub round_up-start-requires : goal.round_up-start-requires
-round_up-start-requires g c =
+pub next_multiple_of-start-requires : goal.next_multiple_of-start-requires
+unfolding round_up
+next_multiple_of-start-requires g c =
     let st : State = state g.B.Allocator.meaning c.args.self.now c.args.region.now in
     let v = link.movable st c.args.h c.in_ok-spot.spot c.in_ok-spot.ensures c.args.more c.requires.mutable (asked c.in_ok-room.room.layout) c.in_ok-room.ensures.1 in
     let m = c.in_ok-block.ensures in
-    (v.claim_low, omega (arith, m.within, m.size, v.room, v.ends, c.base-base.ensures))
+    let high = round_up_high (c.base-base.result + c.in_ok-block.block.place) c.in_ok-spot.spot.line.claim v.claim_low in
+    record { nonzero = v.claim_low; fits = omega (arith, high, m.within, m.size, v.room, v.ends, c.base-base.ensures) }
 
 pub nonzero_div-capacity : goal.nonzero_div-capacity
 nonzero_div-capacity g c =
@@ -54,14 +58,16 @@ nonzero_div-capacity g c =
     link.wide st c.args.h c.in_ok-spot.spot c.in_ok-spot.ensures c.args.more c.requires.mutable
 
 pub returns : goal.returns
+unfolding round_up
 returns g c =
     let st : State = state g.B.Allocator.meaning c.args.self.now c.args.region.now in
-    link.roomy_moved st c.args.h c.in_ok-spot.spot c.in_ok-spot.ensures c.args.more c.requires.mutable c.in_ok-room.room.bytes c.base-base.result c.round_up-start.result (asked c.in_ok-room.room.layout) c.in_ok-block.block (g.B.Allocator.meaning c.relocate.new.allocator) c.relocate.new.region c.relocated-line.result (lines_of c.put.new.self)
-    (sym c.if-has_room.ensures) c.in_ok-room.ensures.2 c.in_ok-room.ensures.1 c.in_ok-block.ensures c.in_ok-room.ensures.0 c.base-base.ensures c.round_up-start.ensures.value c.relocated-line.ensures c.put.ensures
+    link.roomy_moved st c.args.h c.in_ok-spot.spot c.in_ok-spot.ensures c.args.more c.requires.mutable c.in_ok-room.room.bytes c.base-base.result c.next_multiple_of-start.result (asked c.in_ok-room.room.layout) c.in_ok-block.block (g.B.Allocator.meaning c.relocate.new.allocator) c.relocate.new.region c.relocated-line.result (lines_of c.put.new.self)
+    (sym c.if-has_room.ensures) c.in_ok-room.ensures.2 c.in_ok-room.ensures.1 c.in_ok-block.ensures c.in_ok-room.ensures.0 c.base-base.ensures c.next_multiple_of-start.ensures.value c.relocated-line.ensures c.put.ensures
 
 pub invariant_of-self-2 : goal.invariant_of-self-2
+unfolding round_up
 invariant_of-self-2 g c =
     let st : State = state g.B.Allocator.meaning c.args.self.now c.args.region.now in
     after st c.in_ok-spot.ensures.ready (Reserve c.args.h c.args.more) 0 (over st (lines_of c.put.new.self) (g.B.Allocator.meaning c.relocate.new.allocator) c.relocate.new.region) tt
-    (link.moved_grants st c.args.h c.in_ok-spot.spot c.in_ok-spot.ensures c.args.more c.requires.mutable c.in_ok-room.room.bytes c.base-base.result c.round_up-start.result (asked c.in_ok-room.room.layout) c.in_ok-block.block (g.B.Allocator.meaning c.relocate.new.allocator) c.relocate.new.region c.relocated-line.result (lines_of c.put.new.self)
-    (sym c.if-has_room.ensures) c.in_ok-room.ensures.2 c.in_ok-room.ensures.1 c.in_ok-block.ensures c.in_ok-room.ensures.0 c.base-base.ensures c.round_up-start.ensures.value c.relocated-line.ensures c.put.ensures)
+    (link.moved_grants st c.args.h c.in_ok-spot.spot c.in_ok-spot.ensures c.args.more c.requires.mutable c.in_ok-room.room.bytes c.base-base.result c.next_multiple_of-start.result (asked c.in_ok-room.room.layout) c.in_ok-block.block (g.B.Allocator.meaning c.relocate.new.allocator) c.relocate.new.region c.relocated-line.result (lines_of c.put.new.self)
+    (sym c.if-has_room.ensures) c.in_ok-room.ensures.2 c.in_ok-room.ensures.1 c.in_ok-block.ensures c.in_ok-room.ensures.0 c.base-base.ensures c.next_multiple_of-start.ensures.value c.relocated-line.ensures c.put.ensures)

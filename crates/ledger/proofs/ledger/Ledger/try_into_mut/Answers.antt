@@ -1,4 +1,4 @@
-use Rattle.std.proofs.Common.{sym, refl, ◌∙◌, subst}
+use Rattle.std.proofs.Common.{sym, refl, ◌∙◌}
 use Rattle.std.proofs.lemmas.Result.{err_from_is_err_and}
 use Rattle.book.specs.Held.{lines_of}
 use Rattle.model.specs.Book.{State, shared_by}
@@ -20,17 +20,17 @@ returns-in_err-unshared g c =
     let p = err_from_is_err_and c.from_residual-in_err-unshared.result c.from_residual-in_err-unshared.ensures.1 in
     rw (p.1, p.2) (refused (unsharing st c.args.h c.requires.shared) c.in_ok-spot.spot c.in_ok-spot.ensures _ (rw (sym c.shares.ensures) c.in_err-unshared.ensures), refl)
 
-pub unfrozen-requires : goal.unfrozen-requires
-unfrozen-requires g c =
+pub invariant_of-placed : goal.invariant_of-placed
+invariant_of-placed g c =
     let st : State = state g.B.Allocator.meaning c.args.self.now c.args.region.now in
-    record { sits = subst (λ b. Rattle.model.specs.Invariant.Sits b c.in_ok-spot.spot.line (Rattle.model.specs.Book.block_of c.in_ok-spot.spot.line.backing)) (sym c.base-base.ensures) (link.stands st c.args.h c.in_ok-spot.spot c.in_ok-spot.ensures).sits; wide = (link.stands st c.args.h c.in_ok-spot.spot c.in_ok-spot.ensures).wide }
+    link.places st c.args.h c.in_ok-spot.spot c.in_ok-spot.ensures c.base.result c.base.ensures
 
 -- what the call did
 granted : (g : given.Over) (c : After-put g) → let st : State = state g.B.Allocator.meaning c.args.self.now c.args.region.now in Grants st (TryIntoMut c.args.h) 0 (over st (lines_of c.put.new.self) st.meaning st.bytes)
 unfolding shared_by
 granted g c =
     let st : State = state g.B.Allocator.meaning c.args.self.now c.args.region.now in
-    puts (unsharing st c.args.h c.requires.shared) c.in_ok-spot.spot c.in_ok-spot.ensures c.unfrozen.result (lines_of c.put.new.self) (rw (sym c.shares.ensures) c.in_ok-unshared.ensures.0, c.unfrozen.ensures ∙ link.unfrozen_base st c.base-base.result c.in_ok-spot.spot.line c.in_ok-spot.spot.line.backing c.base-base.ensures) c.put.ensures
+    puts (unsharing st c.args.h c.requires.shared) c.in_ok-spot.spot c.in_ok-spot.ensures c.unfrozen.result (lines_of c.put.new.self) (rw (sym c.shares.ensures) c.in_ok-unshared.ensures.0, c.unfrozen.ensures ∙ link.unfrozen_base st c.base.result c.in_ok-spot.spot.line c.in_ok-spot.spot.line.backing c.base.ensures) c.put.ensures
 
 pub returns : goal.returns
 returns g c = granted g (goal.at.returns g c).After-put

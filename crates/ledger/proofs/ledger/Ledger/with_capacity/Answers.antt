@@ -17,10 +17,10 @@ obtain-requires-clause-some g c =
     let st : State = state g.B.Allocator.meaning c.args.self.now c.args.region.now in
     asks_long st c.args.terms.kind c.args.capacity c.args.terms.claim c.args.terms.preferred c.in_ok-plan.plan c.in_ok-plan.ensures (claims_one c.args.terms.fair)
 
-pub planned_line-requires : goal.planned_line-requires
-planned_line-requires g c =
+pub invariant_of-seat : goal.invariant_of-seat
+invariant_of-seat g c =
     let st : State = state g.B.Allocator.meaning c.args.self.now c.args.region.now in
-    spaced st c.args.terms.kind c.args.capacity c.args.terms.claim c.args.terms.preferred c.in_ok-plan.plan c.in_ok-plan.ensures (claims_one c.args.terms.fair) c.in_ok-got.got (g.B.Allocator.meaning c.obtain.new.allocator) c.in_ok-got.ensures.1
+    record { spaced = spaced st c.args.terms.kind c.args.capacity c.args.terms.claim c.args.terms.preferred c.in_ok-plan.plan c.in_ok-plan.ensures (claims_one c.args.terms.fair) c.in_ok-got.got (g.B.Allocator.meaning c.obtain.new.allocator) c.in_ok-got.ensures.1 }
 
 -- what the call did
 granted : (g : given.Over) (c : After-add g) → let st : State = state g.B.Allocator.meaning c.args.self.now c.args.region.now in let st' : State = over_next st c.add.new.self.next (lines_of c.add.new.self.book) (g.B.Allocator.meaning c.obtain.new.allocator) c.args.region.now in let call : Call = WithCapacity c.args.terms.kind c.args.capacity c.args.terms.claim c.args.terms.preferred in Grants st call c.in_ok-plan.plan.serial st'
