@@ -92,7 +92,7 @@ impl Allocation {
         })
     }
 
-    // The same, and sets just the block to zero.
+    // The same, and sets just the block to zero: a call of its own, since it writes the region, which `allocate` only reads.
     pub fn allocate_zeroed<B: Allocator>(
         allocator: &mut B,
         region: &mut [u8],

@@ -39,6 +39,7 @@ impl Refusal {
         self as u8
     }
 
+    // The number comes from the variant, so the words stand apart from it: a derived `Display` would repeat each number in its text.
     fn words(self) -> &'static str {
         match self {
             Refusal::RegionDiffers => "the region is not the one that was agreed on",

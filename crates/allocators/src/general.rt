@@ -12,7 +12,7 @@ use allocation::layout::Layout;
 // Takes the lowest place that fits; a growth always moves.
 pub type General = TableAllocator<Lowest>;
 
-// Any place that fits; a growth always moves.
+// The lowest place that fits; a growth always moves.
 pub struct Lowest;
 
 impl Placement for Lowest {

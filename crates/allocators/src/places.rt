@@ -31,7 +31,7 @@ pub(crate) fn apart(one: Block, other: Block) -> bool
 }
 
 // The lowest place at or above `start` where a block of the request fits between the live ones.
-// A candidate that a live block is in the way of gives way to the next one behind that block.
+// A candidate that a live block is in the way of gives way to the next one behind that block: a search left by its label at the first overlap.
 pub(crate) fn lowest_place(
     base: usize,
     extent: usize,

@@ -146,6 +146,7 @@ impl<P: Placement> Allocator for TableAllocator<P> {
         Ok(place)
     }
 
+    // Written here as in the trait, since it says where the block is placed, and clauses of its own want a body of its own.
     fn allocate_zeroed(&mut self, region: &mut [u8], layout: Layout) -> Result<usize, Fault>
         ensures outcome { let r = asked layout in AllocatedZeroed (λ p. block_at p r) (meant P.placing self.old.arena) region.old r result (meant P.placing self.new.arena) region.new }
         ensures lowest { IfOk result (λ p. Placed P.placing self.old.arena (asked layout) p) }

@@ -1,7 +1,7 @@
 // SPDX-License-Identifier: Apache-2.0
 // What only shared handles have.
 // Works over src/buffer.rs of vortex-buffer 0.90.0.
-ghost use Rattle.std.specs.Prelude.{false};
+ghost use Rattle.std.specs.Prelude.{◌≡◌, false};
 ghost use Rattle.buffer.specs.Answered.{Makes, Reads, Turns};
 ghost use Rattle.buffer.specs.Handles.{bytes_of, handle, kind, shared_handle};
 ghost use Rattle.buffer.specs.View.{state};
@@ -19,6 +19,7 @@ use allocation::alignment::Alignment;
 use allocation::allocation::Allocator;
 use allocation::fault::Fault;
 use element::Element;
+use ledger::handles::SharedHandle;
 use std::ops::Bound;
 
 // A handle whose elements may be shared and no longer change.
@@ -28,6 +29,15 @@ pub type Buffer<K> = TypedHandle<Shared, K>;
 pub type ByteBuffer = Buffer<u8>;
 
 impl<K: Element> Buffer<K> {
+    // The handle as the calls of a shared handle take it.
+    fn shared_handle(&self) -> SharedHandle
+        ensures { result.handle ≡ shared_handle K.Element self.now }
+    {
+        SharedHandle {
+            handle: self.handle(),
+        }
+    }
+
     // A handle without elements and without a backing.
     pub fn empty_aligned<B: Allocator>(
         store: &mut Store<B>,
@@ -86,6 +96,8 @@ impl<K: Element> Buffer<K> {
             .is_aligned(region, self.handle(), in_bytes(alignment))
     }
 
+    // The calls below have the names of the Rust crate; each is one call of the store.
+
     // A second handle on the same elements.
     pub fn share<B: Allocator>(
         &self,
@@ -95,7 +107,7 @@ impl<K: Element> Buffer<K> {
         ensures { Makes (state B.Allocator store.old region.now) (share (shared_handle K.Element self.now)) result (state B.Allocator store.new region.now) }
     {
         let number = store.number();
-        let made = store.ledger.share(region, self.handle());
+        let made = store.ledger.share(region, self.shared_handle());
         Ok(Self::given(number, made?))
     }
 
@@ -110,7 +122,9 @@ impl<K: Element> Buffer<K> {
         ensures { Makes (state B.Allocator store.old region.now) (slice (shared_handle K.Element self.now) first last) result (state B.Allocator store.new region.now) }
     {
         let number = store.number();
-        let made = store.ledger.slice(region, self.handle(), first, last);
+        let made = store
+            .ledger
+            .slice(region, self.shared_handle(), first, last);
         Ok(Self::given(number, made?))
     }
 
@@ -127,7 +141,7 @@ impl<K: Element> Buffer<K> {
         let number = store.number();
         let made = store
             .ledger
-            .slice_unaligned(region, self.handle(), first, last);
+            .slice_unaligned(region, self.shared_handle(), first, last);
         Ok(Self::given(number, made?))
     }
 
@@ -145,7 +159,7 @@ impl<K: Element> Buffer<K> {
         let number = store.number();
         let made = store
             .ledger
-            .slice_with_alignment(region, self.handle(), first, last, alignment);
+            .slice_with_alignment(region, self.shared_handle(), first, last, alignment);
         Ok(Self::given(number, made?))
     }
 
@@ -157,7 +171,7 @@ impl<K: Element> Buffer<K> {
     ) -> Result<BufferMut<K>, Refused<Buffer<K>>>
         ensures { Turns (state B.Allocator store.old region.now) (try_into_mut (shared_handle K.Element self)) self result (state B.Allocator store.new region.now) }
     {
-        let done = store.ledger.try_into_mut(region, self.handle());
+        let done = store.ledger.try_into_mut(region, self.shared_handle());
         self.turned(done)
     }
 
@@ -169,7 +183,7 @@ impl<K: Element> Buffer<K> {
     ) -> Result<BufferMut<K>, Refused<Buffer<K>>>
         ensures { Turns (state B.Allocator store.old region.old) (into_mut (shared_handle K.Element self)) self result (state B.Allocator store.new region.new) }
     {
-        let done = store.ledger.into_mut(region, self.handle());
+        let done = store.ledger.into_mut(region, self.shared_handle());
         self.turned(done)
     }
 
@@ -182,7 +196,9 @@ impl<K: Element> Buffer<K> {
     ) -> Result<Buffer<K>, Refused<Buffer<K>>>
         ensures { Turns (state B.Allocator store.old region.old) (aligned (shared_handle K.Element self) (bytes_of alignment)) self result (state B.Allocator store.new region.new) }
     {
-        let done = store.ledger.aligned(region, self.handle(), alignment);
+        let done = store
+            .ledger
+            .aligned(region, self.shared_handle(), alignment);
         self.turned(done)
     }
 
@@ -197,7 +213,7 @@ impl<K: Element> Buffer<K> {
     {
         let done = store
             .ledger
-            .ensure_aligned(region, self.handle(), alignment);
+            .ensure_aligned(region, self.shared_handle(), alignment);
         self.turned(done)
     }
 }

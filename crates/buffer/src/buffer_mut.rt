@@ -1,7 +1,7 @@
 // SPDX-License-Identifier: Apache-2.0
 // What only mutable handles have.
 // Works over src/buffer_mut.rs of vortex-buffer 0.90.0.
-ghost use Rattle.std.specs.Prelude.{map};
+ghost use Rattle.std.specs.Prelude.{◌≡◌, map};
 ghost use Rattle.buffer.specs.Answered.{Makes, Reads, Turns};
 ghost use Rattle.buffer.specs.Handles.{bytes_if, bytes_of, kind, mutable_handle};
 ghost use Rattle.buffer.specs.View.{state};
@@ -19,6 +19,7 @@ use allocation::alignment::Alignment;
 use allocation::allocation::Allocator;
 use allocation::fault::Fault;
 use element::Element;
+use ledger::handles::MutableHandle;
 
 // A handle whose elements may change: it is alone on its backing.
 pub type BufferMut<K> = TypedHandle<Mutable, K>;
@@ -27,6 +28,17 @@ pub type BufferMut<K> = TypedHandle<Mutable, K>;
 pub type ByteBufferMut = BufferMut<u8>;
 
 impl<K: Element> BufferMut<K> {
+    // The handle as the calls of a mutable handle take it.
+    fn mutable_handle(&self) -> MutableHandle
+        ensures { result.handle ≡ mutable_handle K.Element self.now }
+    {
+        MutableHandle {
+            handle: self.handle(),
+        }
+    }
+
+    // The makings below have the names of the Rust crate; each is one call of the store, or of the next one.
+
     // A handle with room for so many elements, at the alignment of the kind.
     pub fn with_capacity_in<B: Allocator>(
         store: &mut Store<B>,
@@ -156,7 +168,9 @@ impl<K: Element> BufferMut<K> {
     ) -> Result<(), Fault>
         ensures { Done (state B.Allocator store.old region.old) (reserve (mutable_handle K.Element self.now) additional) result (state B.Allocator store.new region.new) }
     {
-        store.ledger.reserve(region, self.handle(), additional)
+        store
+            .ledger
+            .reserve(region, self.mutable_handle(), additional)
     }
 
     // Makes room, then writes the value behind the last.
@@ -168,7 +182,7 @@ impl<K: Element> BufferMut<K> {
     ) -> Result<(), Fault>
         ensures { Done (state B.Allocator store.old region.old) (push (mutable_handle K.Element self.now) (K.pattern value.now)) result (state B.Allocator store.new region.new) }
     {
-        store.ledger.push(region, self.handle(), value)
+        store.ledger.push(region, self.mutable_handle(), value)
     }
 
     // Makes room, then writes the value n times behind the last.
@@ -181,7 +195,7 @@ impl<K: Element> BufferMut<K> {
     ) -> Result<(), Fault>
         ensures { Done (state B.Allocator store.old region.old) (push_n (mutable_handle K.Element self.now) (K.pattern value.now) n) result (state B.Allocator store.new region.new) }
     {
-        store.ledger.push_n(region, self.handle(), value, n)
+        store.ledger.push_n(region, self.mutable_handle(), value, n)
     }
 
     // Makes room, then writes the values one behind another.
@@ -195,7 +209,7 @@ impl<K: Element> BufferMut<K> {
     {
         store
             .ledger
-            .extend_from_slice(region, self.handle(), values)
+            .extend_from_slice(region, self.mutable_handle(), values)
     }
 
     // Keeps the first n elements; a greater number does nothing.
@@ -207,7 +221,7 @@ impl<K: Element> BufferMut<K> {
     ) -> Result<(), Fault>
         ensures { Done (state B.Allocator store.old region.now) (truncate (mutable_handle K.Element self.now) n) result (state B.Allocator store.new region.now) }
     {
-        store.ledger.truncate(region, self.handle(), n)
+        store.ledger.truncate(region, self.mutable_handle(), n)
     }
 
     // Writes a value in place of the element at an index.
@@ -220,7 +234,9 @@ impl<K: Element> BufferMut<K> {
     ) -> Result<(), Fault>
         ensures { Done (state B.Allocator store.now region.old) (set (mutable_handle K.Element self.now) index (K.pattern value.now)) result (state B.Allocator store.now region.new) }
     {
-        store.ledger.set(region, self.handle(), index, value)
+        store
+            .ledger
+            .set(region, self.mutable_handle(), index, value)
     }
 
     // A new handle gets everything that this one has, which is left empty.
@@ -232,7 +248,7 @@ impl<K: Element> BufferMut<K> {
         ensures { Makes (state B.Allocator store.old region.now) (take (mutable_handle K.Element self.now)) result (state B.Allocator store.new region.now) }
     {
         let number = store.number();
-        let made = store.ledger.take(region, self.handle());
+        let made = store.ledger.take(region, self.mutable_handle());
         Ok(Self::given(number, made?))
     }
 
@@ -245,7 +261,9 @@ impl<K: Element> BufferMut<K> {
     ) -> Result<BufferMut<K>, Refused<BufferMut<K>>>
         ensures { Turns (state B.Allocator store.old region.old) (aligned_mut (mutable_handle K.Element self) (bytes_of alignment)) self result (state B.Allocator store.new region.new) }
     {
-        let done = store.ledger.aligned_mut(region, self.handle(), alignment);
+        let done = store
+            .ledger
+            .aligned_mut(region, self.mutable_handle(), alignment);
         self.turned(done)
     }
 
@@ -257,7 +275,7 @@ impl<K: Element> BufferMut<K> {
     ) -> Result<Buffer<K>, Refused<BufferMut<K>>>
         ensures { Turns (state B.Allocator store.old region.now) (freeze (mutable_handle K.Element self)) self result (state B.Allocator store.new region.now) }
     {
-        let done = store.ledger.freeze(region, self.handle());
+        let done = store.ledger.freeze(region, self.mutable_handle());
         self.turned(done)
     }
 }

@@ -18,7 +18,6 @@ use Rattle.model.specs.Invariant.{KeptLine, Sits}
 use Rattle.model.specs.Runs.{Sound}
 use Rattle.model.specs.declared.line.Handle.{Handle}
 use Rattle.model.specs.declared.line.Line.{Line}
-use Rattle.model.proofs.Alignments.{max_one}
 use Rattle.model.proofs.Checks.{held}
 use Rattle.model.proofs.Getting.{obtained, Obtained}
 use Rattle.model.proofs.Keyed.{all_find}
@@ -41,7 +40,7 @@ copy_unsized m l c claim k ek f q = stops (size_checks (copy_size l c claim)) (g
 -- a copy with the base and the alignment that the code read, and the request that it made
 module _ (m : Meaning) (n : ℕ) (l : Line) (shared : Bool) (c claim : ℕ) (v : Copying m n l shared c claim) (base k : ℕ) (eb : base ≡ m.base) (ek : k ≡ max claim preferred_alignment) (r : Request) (er : r ≡ request_for (c * l.kind.width + k)) where
   one : 1 ≤ k
-  one = subst (λ z. 1 ≤ z) (sym ek) (max_one claim preferred_alignment v.one)
+  one = subst (λ z. 1 ≤ z) (sym ek) (omega arith)
 
   request_is : r ≡ request_for (copy_size l c claim)
   request_is = er ∙ ap (λ z. request_for (c * l.kind.width + z)) ek
@@ -109,7 +108,7 @@ copy_sits m n bytes l shared c claim new m' bytes' v d bare = subst (λ (z : Lin
     go : (g : Option Block) → d.got ≡ g → Sits m.base (copied_into m.base l l.mutable claim k l.capacity g) (block_of (backing_in g))
     go None e = (omega (arith, w.bare e, v.room), bare)
     go (Some b) e =
-        let one : 1 ≤ k = max_one claim preferred_alignment v.one in
+        let one : 1 ≤ k = omega arith in
         let high = round_up_high (m.base + b.place) k one in
         let none : l.capacity * l.kind.width ≡ 0 = ap (λ z. z * l.kind.width) bare ∙ zero-mul l.kind.width in (
           round_up_low (m.base + b.place) k,
@@ -136,8 +135,8 @@ module _ (st : State) (h : Handle) (spot : Spot) (a : Admitted st h spot) where
   l = spot.line
 
   -- the line may be copied
-  pub copying : (shared : Bool) (c claim : ℕ) → 1 ≤ claim → l.len ≤ c → Copying st.meaning (length st.bytes) l shared c claim
-  copying shared c claim one room =
+  pub copying : (shared : Bool) (c claim : ℕ) → l.len ≤ c → Copying st.meaning (length st.bytes) l shared c claim
+  copying shared c claim room =
       let lim = a.ready.limits in
       record {
         lawful = a.ready.lawful;
@@ -146,7 +145,6 @@ module _ (st : State) (h : Handle) (spot : Spot) (a : Admitted st h spot) where
         low = λ b q. (subst (Sits st.meaning.base l) q (stands st h spot a).sits).0;
         high = λ b q. let s = subst (Sits st.meaning.base l) q (stands st h spot a).sits in omega (arith, s.1, a.ready.lawful.within b (a.ready.sure.held h.serial l b a.found q));
         left = λ b q. a.ready.sure.held h.serial l b a.found (left_own shared l b q);
-        one = one;
         room = room;
       }
 

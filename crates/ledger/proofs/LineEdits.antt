@@ -39,14 +39,14 @@ unfrozen_base st base l (Owned b) e = ap (λ z. unfrozen (state_with 0 z) l (Own
 
 -- the ghost fields of a line in its region
 abbrev pub Places : ℕ → Line → Type 0
-Places base l = record { sits : Sits base l (block_of l.backing); wide : 1 ≤ l.kind.width }
+Places base l = record { sits : Sits base l (block_of l.backing) }
 
 module _ (st : State) (h : Handle) (spot : Spot) (a : Admitted st h spot) where
   pub stands : Stands st.meaning.base spot.line
   stands = a.ready.sure.stands h.serial spot.line a.found
 
   pub places : (base : ℕ) → base ≡ st.meaning.base → Places base spot.line
-  places base e = record { sits = subst (λ b. Sits b spot.line (block_of spot.line.backing)) (sym e) stands.sits; wide = stands.wide }
+  places base e = record { sits = subst (λ b. Sits b spot.line (block_of spot.line.backing)) (sym e) stands.sits }
 
   -- the bytes of the elements and of the room fit 64 bits
   pub bytes_fit : (spot.line.len * spot.line.kind.width < 2 ^ 64) × (spot.line.capacity * spot.line.kind.width < 2 ^ 64)

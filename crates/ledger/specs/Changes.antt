@@ -1,4 +1,4 @@
--- A change of one line: what it is asked of, and what it leaves.
+-- What a change of a handle's line is asked of, and what it leaves.
 use Rattle.std.specs.Prelude.{◌≡◌, ℕ, ◌+◌, ◌⊎◌, Some, None, Ok, Err, Result}
 use Rattle.allocation.specs.declared.fault.Fault.{Fault}
 use Rattle.model.specs.Book.{State}

@@ -33,7 +33,6 @@ pub record Copying (m : Meaning) (n : ℕ) (l : Line) (shared : Bool) (c claim :
   pub low : (b : Block) → block_of l.backing ≡ Some b → m.base + b.place ≤ l.start
   pub high : (b : Block) → block_of l.backing ≡ Some b → l.start + l.len * l.kind.width ≤ m.base + m.extent
   pub left : (b : Block) → block_left shared l ≡ Some b → Among b m.live
-  pub one : 1 ≤ claim
   pub room : l.len ≤ c
 
 -- the elements stand in a block of their own, and the block that was left is given back

@@ -1,7 +1,7 @@
 // SPDX-License-Identifier: Apache-2.0
 // Calls that may copy a line's elements into a block of their own.
 // Works over `aligned` of src/buffer_mut.rs and `aligned` and `into_mut` of src/buffer.rs of vortex-buffer 0.90.0.
-ghost use Rattle.std.specs.Prelude.{◌≡◌, true, false, length, Some, None, MatchResult};
+ghost use Rattle.std.specs.Prelude.{◌≡◌, length, Some, None, MatchResult};
 ghost use Rattle.allocation.specs.Asked.{bytes_of};
 ghost use Rattle.ledger.specs.Copying.{Copying, Copied, aligning, copy_checks};
 ghost use Rattle.ledger.specs.Results.{Done};
@@ -11,6 +11,7 @@ ghost use Rattle.model.specs.Checks.{refusal};
 
 use crate::getting::obtain;
 use crate::giving::give_back;
+use crate::handles::{MutableHandle, SharedHandle};
 use crate::ledger::Ledger;
 use crate::moving::copy_in;
 use allocation::alignment::{Alignment, DEFAULT_ALIGNMENT};
@@ -63,10 +64,7 @@ impl<B: Allocator> Ledger<B> {
                 .put(spot.place, spot.line.with_claim(claim));
             return Ok(());
         }
-        let shared = self
-            .register
-            .book
-            .shares(spot.line.backing, spot.line.serial);
+        let shared = self.register.shares(spot.line);
         // A shared handle has no capacity, and room for its elements alone.
         let count = spot.line.len.max(spot.line.capacity);
         let line = copy_out(&mut self.allocator, region, spot.line, shared, count, claim)?;
@@ -78,34 +76,33 @@ impl<B: Allocator> Ledger<B> {
     pub fn aligned_mut(
         &mut self,
         region: &mut [u8],
-        h: Handle,
+        h: MutableHandle,
         claim: Alignment,
     ) -> Result<(), Fault>
-        requires mutable { h.mutable ≡ true }
-        ensures { Done (state B.Allocator.meaning self.old region.old) (AlignedMut h (bytes_of claim)) result (state B.Allocator.meaning self.new region.new) }
+        ensures { Done (state B.Allocator.meaning self.old region.old) (AlignedMut h.handle (bytes_of claim)) result (state B.Allocator.meaning self.new region.new) }
     {
-        self.realign(region, h, claim)
+        self.realign(region, h.handle, claim)
     }
 
     // The same for a shared handle.
-    pub fn aligned(&mut self, region: &mut [u8], h: Handle, claim: Alignment) -> Result<(), Fault>
-        requires shared { h.mutable ≡ false }
-        ensures { Done (state B.Allocator.meaning self.old region.old) (Aligned h (bytes_of claim)) result (state B.Allocator.meaning self.new region.new) }
+    pub fn aligned(
+        &mut self,
+        region: &mut [u8],
+        h: SharedHandle,
+        claim: Alignment,
+    ) -> Result<(), Fault>
+        ensures { Done (state B.Allocator.meaning self.old region.old) (Aligned h.handle (bytes_of claim)) result (state B.Allocator.meaning self.new region.new) }
     {
-        self.realign(region, h, claim)
+        self.realign(region, h.handle, claim)
     }
 
     // Makes a shared handle a mutable one; it is copied where another handle is on its backing.
-    pub fn into_mut(&mut self, region: &mut [u8], h: Handle) -> Result<(), Fault>
-        requires shared { h.mutable ≡ false }
-        ensures { Done (state B.Allocator.meaning self.old region.old) (IntoMut h) result (state B.Allocator.meaning self.new region.new) }
+    pub fn into_mut(&mut self, region: &mut [u8], h: SharedHandle) -> Result<(), Fault>
+        ensures { Done (state B.Allocator.meaning self.old region.old) (IntoMut h.handle) result (state B.Allocator.meaning self.new region.new) }
     {
-        let spot = self.admits(region, h)?;
+        let spot = self.admits(region, h.handle)?;
         let base = self.allocator.base();
-        let shared = self
-            .register
-            .book
-            .shares(spot.line.backing, spot.line.serial);
+        let shared = self.register.shares(spot.line);
         if !shared {
             let placed = Placed {
                 base,

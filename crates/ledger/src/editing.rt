@@ -2,7 +2,7 @@
 // Calls that change one line, or one element, and nothing else.
 // Works over `truncate`, `clear`, `freeze` and `as_mut_slice` of src/buffer_mut.rs and `clear`, `into_byte_buffer`, `from_byte_buffer_aligned`,
 // `try_into_mut` and `ensure_aligned` of src/buffer.rs of vortex-buffer 0.90.0.
-ghost use Rattle.std.specs.Prelude.{◌≡◌, true, false, not, ◌&&◌};
+ghost use Rattle.std.specs.Prelude.{◌≡◌, true, not, ◌&&◌};
 ghost use Rattle.allocation.specs.Alignments.{IsAlignment};
 ghost use Rattle.allocation.specs.Asked.{bytes_of};
 ghost use Rattle.ledger.specs.Changes.{Asks, Changed, Keeps};
@@ -11,6 +11,7 @@ ghost use Rattle.ledger.specs.View.{state};
 ghost use Rattle.model.specs.Calls.{Truncate, Clear, Freeze, IntoBytes, FromBytes, TryIntoMut, EnsureAligned, Set};
 ghost use Rattle.model.specs.Kinds.{SoundKind, is_byte};
 
+use crate::handles::{MutableHandle, SharedHandle};
 use crate::ledger::Ledger;
 use allocation::alignment::Alignment;
 use allocation::allocation::Allocator;
@@ -42,11 +43,10 @@ impl<B: Allocator> Ledger<B> {
     }
 
     // Shortens the handle to n elements; to a greater length it does nothing.
-    pub fn truncate(&mut self, region: &[u8], h: Handle, n: usize) -> Result<(), Fault>
-        requires mutable { h.mutable ≡ true }
-        ensures { Done (state B.Allocator.meaning self.old region.now) (Truncate h n) result (state B.Allocator.meaning self.new region.now) }
+    pub fn truncate(&mut self, region: &[u8], h: MutableHandle, n: usize) -> Result<(), Fault>
+        ensures { Done (state B.Allocator.meaning self.old region.now) (Truncate h.handle n) result (state B.Allocator.meaning self.new region.now) }
     {
-        self.edit(region, h, |line| Ok(line.shortened(n)))
+        self.edit(region, h.handle, |line| Ok(line.shortened(n)))
     }
 
     // Takes all elements away; the room stays.
@@ -57,11 +57,10 @@ impl<B: Allocator> Ledger<B> {
     }
 
     // Makes a mutable handle a shared one.
-    pub fn freeze(&mut self, region: &[u8], h: Handle) -> Result<(), Fault>
-        requires mutable { h.mutable ≡ true }
-        ensures { Done (state B.Allocator.meaning self.old region.now) (Freeze h) result (state B.Allocator.meaning self.new region.now) }
+    pub fn freeze(&mut self, region: &[u8], h: MutableHandle) -> Result<(), Fault>
+        ensures { Done (state B.Allocator.meaning self.old region.now) (Freeze h.handle) result (state B.Allocator.meaning self.new region.now) }
     {
-        self.edit(region, h, |line| Ok(line.frozen()))
+        self.edit(region, h.handle, |line| Ok(line.frozen()))
     }
 
     // Makes the elements bytes.
@@ -71,7 +70,7 @@ impl<B: Allocator> Ledger<B> {
         self.edit(region, h, |line| Ok(into_bytes(line)))
     }
 
-    // Makes the bytes of a shared handle elements of a kind.
+    // Makes the bytes of a shared handle elements of a kind. The claim is a number of bytes, since it may be the alignment of the kind.
     pub fn from_byte_buffer_aligned(
         &mut self,
         region: &[u8],
@@ -91,16 +90,11 @@ impl<B: Allocator> Ledger<B> {
 
     // Makes a shared handle that is alone on its backing a mutable one.
     // Whether it is alone only the book tells, so the change is not one of the line alone.
-    pub fn try_into_mut(&mut self, region: &[u8], h: Handle) -> Result<(), Fault>
-        requires shared { h.mutable ≡ false }
-        ensures { Done (state B.Allocator.meaning self.old region.now) (TryIntoMut h) result (state B.Allocator.meaning self.new region.now) }
+    pub fn try_into_mut(&mut self, region: &[u8], h: SharedHandle) -> Result<(), Fault>
+        ensures { Done (state B.Allocator.meaning self.old region.now) (TryIntoMut h.handle) result (state B.Allocator.meaning self.new region.now) }
     {
-        let spot = self.admits(region, h)?;
-        unshared(
-            self.register
-                .book
-                .shares(spot.line.backing, spot.line.serial),
-        )?;
+        let spot = self.admits(region, h.handle)?;
+        unshared(self.register.shares(spot.line))?;
         let placed = Placed {
             base: self.allocator.base(),
             line: spot.line,
@@ -113,14 +107,13 @@ impl<B: Allocator> Ledger<B> {
     pub fn ensure_aligned(
         &mut self,
         region: &[u8],
-        h: Handle,
+        h: SharedHandle,
         claim: Alignment,
     ) -> Result<(), Fault>
-        requires shared { h.mutable ≡ false }
-        ensures { Done (state B.Allocator.meaning self.old region.now) (EnsureAligned h (bytes_of claim)) result (state B.Allocator.meaning self.new region.now) }
+        ensures { Done (state B.Allocator.meaning self.old region.now) (EnsureAligned h.handle (bytes_of claim)) result (state B.Allocator.meaning self.new region.now) }
     {
         let claim = claim.as_usize();
-        self.edit(region, h, |line| {
+        self.edit(region, h.handle, |line| {
             stays_aligned(line.kind, line, claim)?;
             Ok(line.with_claim(claim))
         })
@@ -130,15 +123,14 @@ impl<B: Allocator> Ledger<B> {
     pub fn set<K: Element>(
         &self,
         region: &mut [u8],
-        h: Handle,
+        h: MutableHandle,
         i: usize,
         value: &K,
     ) -> Result<(), Fault>
-        requires mutable { h.mutable ≡ true }
-        requires wide { h.kind.width ≡ K.Element.width }
-        ensures { Done (state B.Allocator.meaning self.now region.old) (Set h i (K.Element.pattern value.now)) result (state B.Allocator.meaning self.now region.new) }
+        requires wide { h.handle.kind.width ≡ K.Element.width }
+        ensures { Done (state B.Allocator.meaning self.now region.old) (Set h.handle i (K.Element.pattern value.now)) result (state B.Allocator.meaning self.now region.new) }
     {
-        let spot = self.admits(region, h)?;
+        let spot = self.admits(region, h.handle)?;
         index_within(spot.line, i)?;
         let place = element_place(self.allocator.base(), spot.line, i);
         write_one(region, place, value);

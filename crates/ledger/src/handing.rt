@@ -1,12 +1,12 @@
 // SPDX-License-Identifier: Apache-2.0
 // Calls that make a second handle out of one.
 // Works over `std::mem::take` of a `BufferMut` (src/buffer_mut.rs) and `clone` of a `Buffer` (src/buffer.rs) of vortex-buffer 0.90.0.
-ghost use Rattle.std.specs.Prelude.{◌≡◌, true, false};
-ghost use Rattle.ledger.specs.Changes.{AsksBoth, OpenedBeside, KeepsBoth};
+ghost use Rattle.ledger.specs.Changes.{AsksBoth, KeepsBoth, OpenedBeside};
 ghost use Rattle.ledger.specs.Results.{Opens};
 ghost use Rattle.ledger.specs.View.{state};
 ghost use Rattle.model.specs.Calls.{Take, Share};
 
+use crate::handles::{MutableHandle, SharedHandle};
 use crate::ledger::Ledger;
 use allocation::allocation::Allocator;
 use allocation::fault::Fault;
@@ -34,22 +34,20 @@ impl<B: Allocator> Ledger<B> {
     }
 
     // A new handle gets everything that the mutable handle has, which is left empty.
-    pub fn take(&mut self, region: &[u8], h: Handle) -> Result<u32, Fault>
-        requires mutable { h.mutable ≡ true }
-        ensures { Opens (state B.Allocator.meaning self.old region.now) (Take h) result (state B.Allocator.meaning self.new region.now) }
+    pub fn take(&mut self, region: &[u8], h: MutableHandle) -> Result<u32, Fault>
+        ensures { Opens (state B.Allocator.meaning self.old region.now) (Take h.handle) result (state B.Allocator.meaning self.new region.now) }
     {
-        self.open_beside(region, h, |line, serial| {
-            let left = Line::empty(h.serial, line.kind, line.claim);
+        self.open_beside(region, h.handle, |line, serial| {
+            let left = Line::empty(h.handle.serial, line.kind, line.claim);
             (left, line.with_serial(serial))
         })
     }
 
     // A new shared handle on the backing of a shared one, with the same elements.
-    pub fn share(&mut self, region: &[u8], h: Handle) -> Result<u32, Fault>
-        requires shared { h.mutable ≡ false }
-        ensures { Opens (state B.Allocator.meaning self.old region.now) (Share h) result (state B.Allocator.meaning self.new region.now) }
+    pub fn share(&mut self, region: &[u8], h: SharedHandle) -> Result<u32, Fault>
+        ensures { Opens (state B.Allocator.meaning self.old region.now) (Share h.handle) result (state B.Allocator.meaning self.new region.now) }
     {
-        self.open_beside(region, h, |line, serial| {
+        self.open_beside(region, h.handle, |line, serial| {
             let first = line.with_backing(line.backing.shared_with(serial));
             (first, first.with_serial(serial))
         })

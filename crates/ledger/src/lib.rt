@@ -11,6 +11,7 @@ pub mod editing;
 pub mod getting;
 pub mod giving;
 pub mod handing;
+pub mod handles;
 pub mod ledger;
 pub mod making;
 pub mod moving;

@@ -2,7 +2,7 @@
 // The makings of new handles.
 // Works over `with_capacity_preferred_aligned_in`, `zeroed_preferred_aligned_in`, `copy_from_preferred_aligned_in` and `full_in` of src/buffer_mut.rs,
 // and `empty_aligned` of src/buffer.rs of vortex-buffer 0.90.0.
-ghost use Rattle.std.specs.Prelude.{◌≡◌, max, ◌++◌, map, replicate, Some, MatchResult};
+ghost use Rattle.std.specs.Prelude.{◌≡◌, ◌≤◌, max, ◌++◌, map, replicate, Some, MatchResult};
 ghost use Rattle.allocation.specs.Asked.{bytes_of};
 ghost use Rattle.sizes.specs.Numbers.{state_with};
 ghost use Rattle.ledger.specs.Entry.{opening};
@@ -29,24 +29,39 @@ use sizes::made;
 use sizes::seat::Seat;
 
 // The line of a making with n elements at a seat.
-pub fn planned_line(serial: u32, terms: Terms, mutable: bool, n: usize, seat: Seat) -> Line
-    ensures { result ≡ made_as mutable (made (state_with serial seat.base) terms.kind terms.claim seat.m n seat.got) }
+pub fn planned_line(
+    serial: u32,
+    kind: Kind,
+    mutable: bool,
+    claim: usize,
+    n: usize,
+    seat: Seat,
+) -> Line
+    requires { 1 ≤ kind.width }
+    ensures { result ≡ made_as mutable (made (state_with serial seat.base) kind claim seat.m n seat.got) }
 {
-    made(serial, terms.kind, terms.claim, n, seat).made_as(mutable)
+    made(serial, kind, claim, n, seat).made_as(mutable)
 }
 
 impl<B: Allocator> Ledger<B> {
     // What the makings share stands in `plans`, `obtain` and `planned_line`; they differ in how the region is lent, and in what is written there.
 
     // All checks of a making but the grant; then what it asks for.
-    pub fn plans(&self, region: &[u8], terms: Terms, count: usize) -> Result<Plan, Fault>
+    pub fn plans(
+        &self,
+        region: &[u8],
+        kind: Kind,
+        count: usize,
+        claim: usize,
+        preferred: usize,
+    ) -> Result<Plan, Fault>
         ensures { MatchResult result
-            (λ plan. Planned (state B.Allocator.meaning self.now region.now) terms.kind count terms.claim terms.preferred plan)
-            (λ f. refusal (opening (state B.Allocator.meaning self.now region.now) ++ plan_checks terms.kind count terms.claim (max terms.claim terms.preferred)) ≡ Some f) }
+            (λ plan. Planned (state B.Allocator.meaning self.now region.now) kind count claim preferred plan)
+            (λ f. refusal (opening (state B.Allocator.meaning self.now region.now) ++ plan_checks kind count claim (max claim preferred)) ≡ Some f) }
     {
         let serial = self.opens(region)?;
-        let m = terms.claim.max(terms.preferred);
-        let layout = making(terms.kind, count, terms.claim, m)?;
+        let m = claim.max(preferred);
+        let layout = making(kind, count, claim, m)?;
         let base = self.allocator.base();
         Ok(Plan {
             serial,
@@ -65,15 +80,14 @@ impl<B: Allocator> Ledger<B> {
     ) -> Result<u32, Fault>
         ensures { Opens (state B.Allocator.meaning self.old region.now) (WithCapacity terms.kind capacity terms.claim terms.preferred) result (state B.Allocator.meaning self.new region.now) }
     {
-        let plan = self.plans(region, terms, capacity)?;
+        let plan = self.plans(region, terms.kind, capacity, terms.claim, terms.preferred)?;
         let got = obtain(&mut self.allocator, region, capacity, plan.layout)?;
         let seat = Seat {
             base: plan.base,
             m: plan.m,
             got,
         };
-        self.register
-            .add(planned_line(plan.serial, terms, true, 0, seat));
+        self.register.add(planned_line(plan.serial, terms.kind, true, terms.claim, 0, seat));
         Ok(plan.serial)
     }
 
@@ -87,15 +101,14 @@ impl<B: Allocator> Ledger<B> {
     ) -> Result<u32, Fault>
         ensures { Opens (state B.Allocator.meaning self.old region.old) (Zeroed terms.kind mutable len terms.claim terms.preferred) result (state B.Allocator.meaning self.new region.new) }
     {
-        let plan = self.plans(region, terms, len)?;
+        let plan = self.plans(region, terms.kind, len, terms.claim, terms.preferred)?;
         let got = obtain_zeroed(&mut self.allocator, region, len, plan.layout)?;
         let seat = Seat {
             base: plan.base,
             m: plan.m,
             got,
         };
-        self.register
-            .add(planned_line(plan.serial, terms, mutable, len, seat));
+        self.register.add(planned_line(plan.serial, terms.kind, mutable, terms.claim, len, seat));
         Ok(plan.serial)
     }
 
@@ -111,14 +124,14 @@ impl<B: Allocator> Ledger<B> {
         ensures { Opens (state B.Allocator.meaning self.old region.old) (CopyFrom terms.kind mutable (V.Values.patterns values.now) terms.claim terms.preferred) result (state B.Allocator.meaning self.new region.new) }
     {
         let n = values.count();
-        let plan = self.plans(region, terms, n)?;
+        let plan = self.plans(region, terms.kind, n, terms.claim, terms.preferred)?;
         let got = obtain(&mut self.allocator, region, n, plan.layout)?;
         let seat = Seat {
             base: plan.base,
             m: plan.m,
             got,
         };
-        let line = planned_line(plan.serial, terms, mutable, n, seat);
+        let line = planned_line(plan.serial, terms.kind, mutable, terms.claim, n, seat);
         write_in(region, seat, values);
         self.register.add(line);
         Ok(plan.serial)

@@ -40,7 +40,7 @@ pub fn copy_in(region: &mut [u8], line: Line, seat: Seat)
     }
 }
 
-// Takes a new block, copies the elements, and gives the old block back.
+// Takes a new block, copies the elements, and gives the old block back. What it requires of the line is what `relocate`, which calls it, does.
 pub fn take_new<B: Allocator>(
     allocator: &mut B,
     region: &mut [u8],

@@ -5,7 +5,8 @@ ghost use Rattle.std.specs.Prelude.{◌≡◌, ◌<◌, [], length, Some, None, 
 ghost use Rattle.book.specs.Held.{lines_of};
 ghost use Rattle.ledger.specs.Entry.{Free, handle_check};
 ghost use Rattle.ledger.specs.Registered.{Added};
-ghost use Rattle.model.specs.Book.{line_limit, serial_limit};
+ghost use Rattle.model.specs.Keyed.{any_other};
+ghost use Rattle.model.specs.Book.{one_backing, serial_of, line_limit, serial_limit};
 ghost use Rattle.model.specs.Checks.{refusal};
 
 use allocation::fault::{Fault, Refusal};
@@ -47,6 +48,13 @@ impl Register {
             return Err(Fault::Alone(Refusal::NoHandleLeft));
         }
         Ok(self.next as u32)
+    }
+
+    // Whether another handle is on the backing of the line.
+    pub fn shares(&self, line: Line) -> bool
+        ensures { result ≡ any_other serial_of (λ m. one_backing line.backing m.backing) line.serial (lines_of self.now.book) }
+    {
+        self.book.shares(line.backing, line.serial)
     }
 
     // Adds the line of a new handle, whose serial is spent.

@@ -17,10 +17,7 @@ impl<B: Allocator> Ledger<B> {
         ensures { Done (state B.Allocator.meaning self.old region.now) (Release h) result (state B.Allocator.meaning self.new region.now) }
     {
         let spot = self.admits(region, h)?;
-        let shared = self
-            .register
-            .book
-            .shares(spot.line.backing, spot.line.serial);
+        let shared = self.register.shares(spot.line);
         give_back(&mut self.allocator, region, spot.line.block_left(shared))?;
         self.register.book.end(spot.place);
         Ok(())

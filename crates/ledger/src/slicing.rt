@@ -1,7 +1,6 @@
 // SPDX-License-Identifier: Apache-2.0
 // Slices of a shared handle.
 // Works over `slice`, `slice_unaligned` and `slice_with_alignment` of src/buffer.rs of vortex-buffer 0.90.0.
-ghost use Rattle.std.specs.Prelude.{◌≡◌, false};
 ghost use Rattle.allocation.specs.Asked.{bytes_of};
 ghost use Rattle.ledger.specs.Claims.{claim_of};
 ghost use Rattle.ledger.specs.Results.{Opens};
@@ -9,12 +8,12 @@ ghost use Rattle.ledger.specs.View.{state};
 ghost use Rattle.model.specs.Calls.{Slice, Given, Inherited, OfKind};
 
 use crate::claim::Claim;
+use crate::handles::SharedHandle;
 use crate::ledger::Ledger;
 use allocation::alignment::Alignment;
 use allocation::allocation::Allocator;
 use allocation::fault::Fault;
 use checks::slices;
-use model::line::Handle;
 use sizes::slice_line;
 use std::ops::Bound;
 
@@ -23,15 +22,14 @@ impl<B: Allocator> Ledger<B> {
     pub fn slice_claiming(
         &mut self,
         region: &[u8],
-        h: Handle,
+        h: SharedHandle,
         first: Bound<usize>,
         last: Bound<usize>,
         claim: Claim,
     ) -> Result<u32, Fault>
-        requires shared { h.mutable ≡ false }
-        ensures { Opens (state B.Allocator.meaning self.old region.now) (Slice h first last (claim_of claim)) result (state B.Allocator.meaning self.new region.now) }
+        ensures { Opens (state B.Allocator.meaning self.old region.now) (Slice h.handle first last (claim_of claim)) result (state B.Allocator.meaning self.new region.now) }
     {
-        let spot = self.admits(region, h)?;
+        let spot = self.admits(region, h.handle)?;
         let serial = self.register.next_serial()?;
         let claim = claim.of(spot.line);
         let range = slices(spot.line, first, last, claim)?;
@@ -44,12 +42,11 @@ impl<B: Allocator> Ledger<B> {
     pub fn slice(
         &mut self,
         region: &[u8],
-        h: Handle,
+        h: SharedHandle,
         first: Bound<usize>,
         last: Bound<usize>,
     ) -> Result<u32, Fault>
-        requires shared { h.mutable ≡ false }
-        ensures { Opens (state B.Allocator.meaning self.old region.now) (Slice h first last Inherited) result (state B.Allocator.meaning self.new region.now) }
+        ensures { Opens (state B.Allocator.meaning self.old region.now) (Slice h.handle first last Inherited) result (state B.Allocator.meaning self.new region.now) }
     {
         self.slice_claiming(region, h, first, last, Claim::Inherited)
     }
@@ -58,12 +55,11 @@ impl<B: Allocator> Ledger<B> {
     pub fn slice_unaligned(
         &mut self,
         region: &[u8],
-        h: Handle,
+        h: SharedHandle,
         first: Bound<usize>,
         last: Bound<usize>,
     ) -> Result<u32, Fault>
-        requires shared { h.mutable ≡ false }
-        ensures { Opens (state B.Allocator.meaning self.old region.now) (Slice h first last OfKind) result (state B.Allocator.meaning self.new region.now) }
+        ensures { Opens (state B.Allocator.meaning self.old region.now) (Slice h.handle first last OfKind) result (state B.Allocator.meaning self.new region.now) }
     {
         self.slice_claiming(region, h, first, last, Claim::OfKind)
     }
@@ -72,13 +68,12 @@ impl<B: Allocator> Ledger<B> {
     pub fn slice_with_alignment(
         &mut self,
         region: &[u8],
-        h: Handle,
+        h: SharedHandle,
         first: Bound<usize>,
         last: Bound<usize>,
         claim: Alignment,
     ) -> Result<u32, Fault>
-        requires shared { h.mutable ≡ false }
-        ensures { Opens (state B.Allocator.meaning self.old region.now) (Slice h first last (Given (bytes_of claim))) result (state B.Allocator.meaning self.new region.now) }
+        ensures { Opens (state B.Allocator.meaning self.old region.now) (Slice h.handle first last (Given (bytes_of claim))) result (state B.Allocator.meaning self.new region.now) }
     {
         self.slice_claiming(region, h, first, last, Claim::Given(claim))
     }

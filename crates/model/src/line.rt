@@ -69,6 +69,7 @@ impl Backing {
 }
 
 // What the book holds of a live handle. The start is an address; length and capacity count elements.
+// A shared line has capacity 0, and no `Option`: its state is compared with a handle's in every call, and its capacity is added and multiplied.
 #[derive(Clone, Copy)]
 pub struct Line {
     pub serial: u32,
@@ -82,7 +83,7 @@ pub struct Line {
 }
 
 impl Default for Line {
-    // A line that is no handle's.
+    // A line that is no handle's. A derived one would have a kind of no bytes and a claim of 0.
     #[tactic(auto, unfolding(crate::specs::Book::blank))]
     fn default() -> Line
         ensures { result ≡ blank }

@@ -1,6 +1,6 @@
 // SPDX-License-Identifier: Apache-2.0
 // What holds of the definitions in specs/: a function's contract names each theorem, and to call the function is to have it.
-// The private functions stand on the proofs alone; a public one is proved from the one that it calls.
+// The private functions stand on the proofs alone; a public one is proved from the one that it calls, so that calling another leaves its theorem unproved.
 ghost use Rattle.std.specs.Prelude.{ℕ, List};
 ghost use Rattle.allocation.specs.Meaning.{Meaning};
 ghost use Rattle.model.specs.Laws.{StoreLaw, InvariantLaw};

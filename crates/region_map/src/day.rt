@@ -69,6 +69,7 @@ pub enum Trouble {
     Memory,
 }
 
+// By way of a fault, which a derived `From` cannot take.
 impl From<Refusal> for Trouble {
     fn from(refusal: Refusal) -> Trouble {
         Trouble::Refused(refusal.into())

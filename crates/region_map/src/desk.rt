@@ -8,7 +8,7 @@ use allocators::general::General;
 use allocators::shelf::Shelf;
 use std::io;
 
-// An allocator of the kind that a line of the input names: only the run knows which.
+// An allocator of the kind that a line of the input names: only the run knows which, and a boxed one may not leave the function that makes it.
 #[derive(Drop)]
 enum Chosen {
     General(General),

@@ -13,6 +13,7 @@ pub fn draw(rt: &impl Print, day: &Day) -> io::Result<()> {
     let extent = day.extent();
     let width = extent / CELLS;
     print!(rt; "   [")?;
+    // Cell i starts at i times the width.
     for i in 0..CELLS {
         let from = i.saturating_mul(width);
         let end = if i + 1 == CELLS {

@@ -18,7 +18,7 @@ spaced_block m m' n a b low one le g =
 
 pub spaced_got : (wanted : Bool) (m m' : Meaning) (n a : ℕ) (got : Option Block) → m.base + m.extent < 2 ^ 64 → 1 ≤ a → a ≤ n → Obtains wanted m (request_for n) got m' → Spaced m.base a got
 spaced_got true m m' n a got low one le g = subst (Spaced m.base a) (sym g.1) (spaced_block m m' n a g.0 low one le g.2)
-spaced_got false m m' n a got low one le g = subst (Spaced m.base a) (sym g.0) one
+spaced_got false m m' n a got low one le g = subst (Spaced m.base a) (sym g.0) tt
 
 -- elements end within 64 bits where their block does
 pub len_below : (base : ℕ) (l : Line) (o : Option Block) → l.start < 2 ^ 64 → ((b : Block) → o ≡ Some b → base + end_of b < 2 ^ 64) → Sits base l o → l.start + l.len * l.kind.width < 2 ^ 64

@@ -1,5 +1,5 @@
 -- What the code's numbers must leave room for, and states of which only two numbers count.
-use Rattle.std.specs.Prelude.{ℕ, ◌+◌, ◌-◌, ◌^◌, ◌<◌, ◌≤◌, false, [], Some, None, Option}
+use Rattle.std.specs.Prelude.{ℕ, ◌+◌, ◌-◌, ◌^◌, ◌<◌, ◌≤◌, false, [], Some, None, Option, refl}
 use native.Mathlib.Nat.{ℕ_set}
 use Rattle.std.specs.Coded.{le_prop}
 use Rattle.allocation.specs.Alignments.{round_up}
@@ -8,14 +8,14 @@ use Rattle.model.specs.Book.{State}
 use Rattle.model.specs.Invariant.{Sits}
 use Rattle.model.specs.declared.line.Line.{Line}
 
--- the block that was got holds an alignment of m, and its start can be rounded up to m within 64 bits
+-- a block that was got holds an alignment of m, and its start can be rounded up to m within 64 bits
 abbrev pub Spaced : ℕ → ℕ → Option Block → Type 0
-Spaced base m None = 1 ≤ m
+Spaced base m None = Unit {0}
 Spaced base m (Some b) = (1 ≤ m) × (m ≤ b.size) × (base + b.place + m < 2 ^ 64)
 
 -- there is one way to be spaced
 pub Spaced-prop : (base m : ℕ) (got : Option Block) → IsProp (Spaced base m got)
-Spaced-prop base m None u v = le_prop u v
+Spaced-prop base m None u v = refl
 Spaced-prop base m (Some b) u v = λ i. (le_prop u.0 v.0 i, le_prop u.1 v.1 i, le_prop u.2 v.2 i)
 
 -- there is one way to sit

@@ -16,7 +16,6 @@ pub struct Placed {
     pub base: usize,
     pub line: Line,
     pub ghost sits: { Sits base line (block_of line.backing) } by { Sits-prop base line (block_of line.backing) },
-    pub ghost wide: { 1 ≤ line.kind.width },
 }
 
 impl Placed {
@@ -24,14 +23,16 @@ impl Placed {
     pub fn shown_place(self) -> usize
         ensures { result ≡ shown_place self.base self.line }
     {
-        match self.line.backing.block() {
-            Some(_) => self.line.start - self.base,
-            None => 0,
+        if self.line.backing.block().is_some() {
+            self.line.start - self.base
+        } else {
+            0
         }
     }
 
     // A shared line that becomes mutable where it stands, with all the room behind its start.
     pub fn unfrozen(self) -> Line
+        requires { 1 ≤ self.line.kind.width }
         ensures { result ≡ unfrozen (state_with 0 self.base) self.line self.line.backing }
     {
         let line = self.line;

@@ -31,6 +31,7 @@ impl Seat {
     pub fn place(self) -> Option<usize>
         ensures { result ≡ place_in self.base self.m self.got }
     {
+        // A closure of `map` would have to show once more that the subtraction stays above 0.
         match self.got {
             Some(_) => Some(self.start() - self.base),
             None => None,

@@ -1,26 +1,13 @@
-use Rattle.std.proofs.Common.{rules, ◌≡◌, Some, None, sym, ap, ◌∙◌, arith}
+use Rattle.std.proofs.Common.{rules, ◌≡◌, Some, sym, ap, ◌∙◌, arith}
 use Rattle.book.specs.Held.{At, lines_of}
 use Rattle.book.proofs.Lookups.{found_at}
 use Rattle.model.specs.Book.{State, known, look_up}
 use Rattle.model.specs.declared.line.Line.{Line}
 use Rattle.ledger.specs.View.{state}
-use Rattle.ledger.proofs.Groups.{other_region, strange, enters, stranger_none, known_line}
+use Rattle.ledger.proofs.Groups.{strange, enters, known_line}
 use Rattle.ledger.proofs.ledger.Ledger.admits.Given as given
 use Rattle.ledger.proofs.ledger.Ledger.admits.Goals as goal
 use Rattle.ledger.proofs.ledger.Ledger.admits.Goals.{After-knows}
-
-pub returns-in_err-knows_region : goal.returns-in_err-knows_region
-returns-in_err-knows_region g c =
-    let st : State = state g.B.Allocator.meaning c.args.self.now c.args.region.now in
-    let e = other_region st c.args.h _ c.in_err-knows_region.ensures in
-    search rules
-
-pub returns-in_err-place : goal.returns-in_err-place
-returns-in_err-place g c =
-    let st : State = state g.B.Allocator.meaning c.args.self.now c.args.region.now in
-    let missing : look_up c.args.h.serial st ≡ None = search rules in
-    let e = strange st c.args.h c.in_ok-knows_region.ensures.0 (stranger_none st c.args.h missing) in
-    search rules
 
 -- the place that was found is that of the handle's line
 there : (g : given.Over) (c : After-knows g) → At (lines_of c.args.self.now.register.book) c.in_ok-place.place c.args.h.serial

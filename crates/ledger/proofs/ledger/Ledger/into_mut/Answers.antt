@@ -19,15 +19,10 @@ use Rattle.ledger.proofs.ledger.Ledger.into_mut.Given as given
 use Rattle.ledger.proofs.ledger.Ledger.into_mut.Goals as goal
 use Rattle.ledger.proofs.ledger.Ledger.into_mut.Goals.{After-put, After-put-2}
 
-pub invariant_of-placed : goal.invariant_of-placed
-invariant_of-placed g c =
-    let st : State = state g.B.Allocator.meaning c.args.self.now c.args.region.now in
-    edits.places st c.args.h c.in_ok-spot.spot c.in_ok-spot.ensures c.base-base.result c.base-base.ensures
-
 pub copy_out-requires : goal.copy_out-requires
 copy_out-requires g c =
     let st : State = state g.B.Allocator.meaning c.args.self.now c.args.region.now in
-    record { copying = link.copying st c.args.h c.in_ok-spot.spot c.in_ok-spot.ensures c.shares-shared.result c.in_ok-spot.spot.line.len c.in_ok-spot.spot.line.claim (edits.stands st c.args.h c.in_ok-spot.spot c.in_ok-spot.ensures).claims (omega arith) }
+    record { copying = link.copying st c.args.h.handle c.in_ok-spot.spot c.in_ok-spot.ensures c.shares-shared.result c.in_ok-spot.spot.line.len c.in_ok-spot.spot.line.claim (omega arith) }
 
 pub returns-in_err-line : goal.returns-in_err-line
 unfolding shared_by
@@ -36,7 +31,7 @@ returns-in_err-line g c =
     let p = err_from_is_err_and c.from_residual-in_err-line.result c.from_residual-in_err-line.ensures.1 in
     let b = c.in_err-line.ensures in
     rw (p.1, p.2) (
-      link.stop_copy st c.args.h c.in_ok-spot.spot c.in_ok-spot.ensures (IntoMut c.args.h) (λ l. []) (λ l. shared_by st l) (λ l. l.len) (λ l. l.claim) (ap (λ b. uses c.args.h (not b)) c.requires.shared) refl _ refl (sym c.shares-shared.ensures ∙ c.if-not-shared.false) b.0,
+      link.stop_copy st c.args.h.handle c.in_ok-spot.spot c.in_ok-spot.ensures (IntoMut c.args.h.handle) (λ l. []) (λ l. shared_by st l) (λ l. l.len) (λ l. l.claim) (ap (λ b. uses c.args.h.handle (not b)) c.args.h.shared) refl _ refl (sym c.shares-shared.ensures ∙ c.if-not-shared.false) b.0,
       λ i. record { number = st.number; next = st.next; lines = st.lines; meaning = b.1 i; bytes = b.2 i },
     )
 
@@ -44,32 +39,37 @@ pub invariant_of-placed-2 : goal.invariant_of-placed-2
 invariant_of-placed-2 g c =
     let st : State = state g.B.Allocator.meaning c.args.self.now c.args.region.now in
     let l : Line = c.in_ok-spot.spot.line in
-    let s = edits.stands st c.args.h c.in_ok-spot.spot c.in_ok-spot.ensures in
-    let copying = link.copying st c.args.h c.in_ok-spot.spot c.in_ok-spot.ensures c.shares-shared.result l.len l.claim s.claims (omega arith) in
+    let copying = link.copying st c.args.h.handle c.in_ok-spot.spot c.in_ok-spot.ensures c.shares-shared.result l.len l.claim (omega arith) in
     let copied = c.in_ok-line.ensures.1 in
-    let bare = link.bare st c.args.h c.in_ok-spot.spot c.in_ok-spot.ensures c.requires.shared in
+    let bare = link.bare st c.args.h.handle c.in_ok-spot.spot c.in_ok-spot.ensures c.args.h.shared in
     record {
       sits = subst (λ b. Sits b c.in_ok-line.line (block_of c.in_ok-line.line.backing)) (sym c.base-base.ensures) (link.copy_sits st.meaning _ st.bytes l c.shares-shared.result l.len l.claim c.in_ok-line.line _ _ copying copied bare);
-      wide = subst (λ (k : Kind). 1 ≤ k.width) (sym (link.copy_kind st.meaning st.bytes l c.shares-shared.result l.len l.claim c.in_ok-line.line _ _ copied)) s.wide;
     }
 
+pub unfrozen-requires-2 : goal.unfrozen-requires-2
+unfrozen-requires-2 g c =
+    let st : State = state g.B.Allocator.meaning c.args.self.now c.args.region.now in
+    let l : Line = c.in_ok-spot.spot.line in
+    let s = edits.stands st c.args.h.handle c.in_ok-spot.spot c.in_ok-spot.ensures in
+    subst (λ (k : Kind). 1 ≤ k.width) (sym (link.copy_kind st.meaning st.bytes l c.shares-shared.result l.len l.claim c.in_ok-line.line _ _ c.in_ok-line.ensures.1)) s.wide
+
 -- alone on its backing, it stays where it is
-stays : (g : given.Over) (c : After-put g) → let st : State = state g.B.Allocator.meaning c.args.self.now c.args.region.now in Grants st (IntoMut c.args.h) 0 (over st (lines_of c.put.new.self) st.meaning st.bytes)
+stays : (g : given.Over) (c : After-put g) → let st : State = state g.B.Allocator.meaning c.args.self.now c.args.region.now in Grants st (IntoMut c.args.h.handle) 0 (over st (lines_of c.put.new.self) st.meaning st.bytes)
 unfolding shared_by
 stays g c =
     let st : State = state g.B.Allocator.meaning c.args.self.now c.args.region.now in
     let l : Line = c.in_ok-spot.spot.line in
-    link.stayed st c.args.h c.in_ok-spot.spot c.in_ok-spot.ensures (IntoMut c.args.h) (λ l. []) (λ l. shared_by st l) (λ l. l.len) (λ l. l.claim) (ap (λ b. uses c.args.h (not b)) c.requires.shared) refl (λ l. not (shared_by st l)) (λ l. unfrozen st l l.backing) true (λ l got. capacity_in st.meaning.base (max l.claim preferred_alignment) l.kind.width got) (λ g st' d. d)
+    link.stayed st c.args.h.handle c.in_ok-spot.spot c.in_ok-spot.ensures (IntoMut c.args.h.handle) (λ l. []) (λ l. shared_by st l) (λ l. l.len) (λ l. l.claim) (ap (λ b. uses c.args.h.handle (not b)) c.args.h.shared) refl (λ l. not (shared_by st l)) (λ l. unfrozen st l l.backing) true (λ l got. capacity_in st.meaning.base (max l.claim preferred_alignment) l.kind.width got) (λ g st' d. d)
     c.unfrozen.result (lines_of c.put.new.self) refl (sym c.shares-shared.ensures ∙ c.if-not-shared.true) (ap not (sym c.shares-shared.ensures ∙ c.if-not-shared.true)) (c.unfrozen.ensures ∙ edits.unfrozen_base st c.base-base.result l l.backing c.base-base.ensures)
     (ap (λ (z : Line). z.serial) c.unfrozen.ensures ∙ edits.unfrozen_serial (state_with 0 c.base-base.result) l l.backing) c.put.ensures
 
 -- else it is copied
-copies : (g : given.Over) (c : After-put-2 g) → let st : State = state g.B.Allocator.meaning c.args.self.now c.args.region.now in Grants st (IntoMut c.args.h) 0 (over st (lines_of c.put-2.new.self) (g.B.Allocator.meaning c.copy_out.new.allocator) c.copy_out.new.region)
+copies : (g : given.Over) (c : After-put-2 g) → let st : State = state g.B.Allocator.meaning c.args.self.now c.args.region.now in Grants st (IntoMut c.args.h.handle) 0 (over st (lines_of c.put-2.new.self) (g.B.Allocator.meaning c.copy_out.new.allocator) c.copy_out.new.region)
 unfolding shared_by
 copies g c =
     let st : State = state g.B.Allocator.meaning c.args.self.now c.args.region.now in
     let l : Line = c.in_ok-spot.spot.line in
-    link.copied st c.args.h c.in_ok-spot.spot c.in_ok-spot.ensures (IntoMut c.args.h) (λ l. []) (λ l. shared_by st l) (λ l. l.len) (λ l. l.claim) (ap (λ b. uses c.args.h (not b)) c.requires.shared) refl (λ l. not (shared_by st l)) (λ l. unfrozen st l l.backing) true (λ l got. capacity_in st.meaning.base (max l.claim preferred_alignment) l.kind.width got) (λ g st' d. d)
+    link.copied st c.args.h.handle c.in_ok-spot.spot c.in_ok-spot.ensures (IntoMut c.args.h.handle) (λ l. []) (λ l. shared_by st l) (λ l. l.len) (λ l. l.claim) (ap (λ b. uses c.args.h.handle (not b)) c.args.h.shared) refl (λ l. not (shared_by st l)) (λ l. unfrozen st l l.backing) true (λ l got. capacity_in st.meaning.base (max l.claim preferred_alignment) l.kind.width got) (λ g st' d. d)
     c.shares-shared.result c.in_ok-line.line c.unfrozen-2.result (lines_of c.put-2.new.self) _ c.copy_out.new.region refl (sym c.shares-shared.ensures ∙ c.if-not-shared.false) (ap not (sym c.shares-shared.ensures ∙ c.if-not-shared.false)) c.shares-shared.ensures
     c.in_ok-line.ensures.0 c.in_ok-line.ensures.1 (λ got e. link.thawed st.meaning.base c.base-base.result l c.in_ok-line.line c.unfrozen-2.result l.claim (max l.claim preferred_alignment) got c.base-base.ensures e c.unfrozen-2.ensures) c.put-2.ensures
 
@@ -82,9 +82,9 @@ returns g c = copies g (goal.at.returns g c).After-put-2
 pub invariant_of-self : goal.invariant_of-self
 invariant_of-self g c =
     let st : State = state g.B.Allocator.meaning c.args.self.now c.args.region.now in
-    after st c.in_ok-spot.ensures.ready (IntoMut c.args.h) 0 _ tt (stays g (goal.at.invariant_of-self g c).After-put)
+    after st c.in_ok-spot.ensures.ready (IntoMut c.args.h.handle) 0 _ tt (stays g (goal.at.invariant_of-self g c).After-put)
 
 pub invariant_of-self-2 : goal.invariant_of-self-2
 invariant_of-self-2 g c =
     let st : State = state g.B.Allocator.meaning c.args.self.now c.args.region.now in
-    after st c.in_ok-spot.ensures.ready (IntoMut c.args.h) 0 _ tt (copies g (goal.at.invariant_of-self-2 g c).After-put-2)
+    after st c.in_ok-spot.ensures.ready (IntoMut c.args.h.handle) 0 _ tt (copies g (goal.at.invariant_of-self-2 g c).After-put-2)

@@ -1,6 +1,5 @@
 use mathlib.Core.Logic.{∥∥₁_map}
 use Rattle.std.proofs.Common.{ℕ, ◌*◌, List, length, sym, refl, ap, ◌∙◌, subst}
-use Rattle.std.proofs.lemmas.Result.{err_from_is_err_and}
 use Rattle.book.specs.Held.{lines_of}
 use Rattle.model.specs.Book.{State}
 use Rattle.model.specs.Calls.{Call, CopyFrom}
@@ -9,29 +8,11 @@ use Rattle.model.specs.Patterns.{Even}
 use Rattle.ledger.specs.Results.{Grants}
 use Rattle.ledger.specs.View.{state}
 use Rattle.ledger.proofs.Edits.{over_next}
-use Rattle.ledger.proofs.Makes.{asks_long, claims_one, copy_unplanned, copy_ungranted, copy_made, spaced, writable, joined_bytes, even_all}
+use Rattle.ledger.proofs.Makes.{asks_long, claims_one, copy_made, spaced, writable, joined_bytes, even_all, wide_terms}
 use Rattle.ledger.proofs.Ties.{after_typed}
 use Rattle.ledger.proofs.ledger.Ledger.make_of.Given as given
 use Rattle.ledger.proofs.ledger.Ledger.make_of.Goals as goal
 use Rattle.ledger.proofs.ledger.Ledger.make_of.Goals.{After-add}
-
-pub returns-in_err-plan : goal.returns-in_err-plan
-returns-in_err-plan g c =
-    let st : State = state g.B.Allocator.meaning c.args.self.now c.args.region.now in
-    let vs : List (List ℕ) = g.V.Values.patterns c.args.values.now in
-    let p = err_from_is_err_and c.from_residual.result c.from_residual.ensures.1 in
-    rw (p.1, p.2) (copy_unplanned st c.args.terms.kind c.args.mutable c.count-n.result c.args.terms.claim c.args.terms.preferred vs (sym c.count-n.ensures) _ c.in_err-plan.ensures, refl)
-
-pub returns-in_err-got : goal.returns-in_err-got
-returns-in_err-got g c =
-    let st : State = state g.B.Allocator.meaning c.args.self.now c.args.region.now in
-    let vs : List (List ℕ) = g.V.Values.patterns c.args.values.now in
-    let p = err_from_is_err_and c.from_residual-in_err-got.result c.from_residual-in_err-got.ensures.1 in
-    let b = c.in_err-got.ensures in
-    rw (p.1, p.2) (
-      copy_ungranted st c.args.terms.kind c.args.mutable c.count-n.result c.args.terms.claim c.args.terms.preferred vs (sym c.count-n.ensures) c.in_ok-plan.plan c.in_ok-plan.ensures _ b.0,
-      λ i. record { number = st.number; next = st.next; lines = st.lines; meaning = b.1 i; bytes = st.bytes },
-    )
 
 pub obtain-requires-clause-some : goal.obtain-requires-clause-some
 obtain-requires-clause-some g c =
@@ -49,6 +30,9 @@ write_in-requires g c =
     let n : ℕ = length (g.V.Values.patterns c.args.values.now) in
     writable st c.args.terms.kind c.count-n.result c.args.terms.claim c.args.terms.preferred c.in_ok-plan.plan c.in_ok-plan.ensures (claims_one c.args.terms.fair) c.in_ok-got.got (g.B.Allocator.meaning c.obtain.new.allocator)
     (n * g.V.Values.width) (length c.args.region.now) (ap (λ (w : ℕ). n * w) (sym c.requires.wide) ∙ ap (λ (z : ℕ). z * c.args.terms.kind.width) (sym c.count-n.ensures)) refl c.in_ok-got.ensures.1
+
+pub planned_line-line-requires : goal.planned_line-line-requires
+planned_line-line-requires g c = wide_terms c.args.terms.fair
 
 -- what the call did
 granted : (g : given.Over) (c : After-add g) → let st : State = state g.B.Allocator.meaning c.args.self.now c.args.region.now in let vs : List (List ℕ) = g.V.Values.patterns c.args.values.now in let st' : State = over_next st c.add.new.self.next (lines_of c.add.new.self.book) (g.B.Allocator.meaning c.obtain.new.allocator) c.write_in.new.region in let call : Call = CopyFrom c.args.terms.kind c.args.mutable vs c.args.terms.claim c.args.terms.preferred in Grants st call c.in_ok-plan.plan.serial st'

@@ -1,13 +1,11 @@
 use Rattle.std.proofs.Common.{◌≡◌, ℕ, length, Some, sym, refl, subst, arith}
 use Rattle.std.proofs.lemmas.Result.{err_from_is_err_and}
-use Rattle.allocation.specs.Alignments.{IsAlignment}
 use Rattle.allocation.specs.Asked.{bytes_of}
 use Rattle.allocation.specs.declared.fault.Fault.{Fault}
 use Rattle.book.specs.Held.{lines_of}
 use Rattle.model.specs.Book.{State, shared_by}
 use Rattle.model.specs.Checks.{refusal, checks}
 use Rattle.model.specs.declared.line.Handle.{Handle}
-use Rattle.model.proofs.Alignments.{alignment_one}
 use Rattle.ledger.specs.Copying.{aligning}
 use Rattle.ledger.specs.Results.{Grants}
 use Rattle.ledger.specs.View.{state}
@@ -32,7 +30,7 @@ returns-in_err-fits_kind g c =
 pub copy_out-requires : goal.copy_out-requires
 copy_out-requires g c =
     let st : State = state g.B.Allocator.meaning c.args.self.now c.args.region.now in
-    record { copying = link.copying st c.args.h c.in_ok-spot.spot c.in_ok-spot.ensures c.shares-shared.result c.max-count.result c.as_usize-claim.result (alignment_one (subst IsAlignment (sym c.as_usize-claim.ensures) (fair c.args.claim))) (omega (arith, c.max-count.ensures)) }
+    record { copying = link.copying st c.args.h c.in_ok-spot.spot c.in_ok-spot.ensures c.shares-shared.result c.max-count.result c.as_usize-claim.result (omega (arith, c.max-count.ensures)) }
 
 pub returns-in_err-line : goal.returns-in_err-line
 returns-in_err-line g c =

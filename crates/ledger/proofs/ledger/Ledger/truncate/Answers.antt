@@ -4,7 +4,7 @@ use Rattle.ledger.proofs.Changes.{truncating, keeps, changed}
 use Rattle.ledger.proofs.ledger.Ledger.truncate.Goals as goal
 
 pub edit-requires-clause-keeps : goal.edit-requires-clause-keeps
-edit-requires-clause-keeps g c = λ spot a new p. keeps (truncating (state g.B.Allocator.meaning c.args.self.now c.args.region.now) c.args.h c.args.n c.requires.mutable) spot a new (search rules)
+edit-requires-clause-keeps g c = λ spot a new p. keeps (truncating (state g.B.Allocator.meaning c.args.self.now c.args.region.now) c.args.h.handle c.args.n c.args.h.mutable) spot a new (search rules)
 
 pub returns : goal.returns
-returns g c = changed (truncating (state g.B.Allocator.meaning c.args.self.now c.args.region.now) c.args.h c.args.n c.requires.mutable) _ _ _ c.edit.ensures (λ spot a new p. search rules) (λ spot a f p. search rules)
+returns g c = changed (truncating (state g.B.Allocator.meaning c.args.self.now c.args.region.now) c.args.h.handle c.args.n c.args.h.mutable) _ _ _ c.edit.ensures (λ spot a new p. search rules) (λ spot a f p. search rules)

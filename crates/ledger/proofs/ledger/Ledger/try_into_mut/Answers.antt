@@ -18,19 +18,14 @@ unfolding shared_by
 returns-in_err-unshared g c =
     let st : State = state g.B.Allocator.meaning c.args.self.now c.args.region.now in
     let p = err_from_is_err_and c.from_residual-in_err-unshared.result c.from_residual-in_err-unshared.ensures.1 in
-    rw (p.1, p.2) (refused (unsharing st c.args.h c.requires.shared) c.in_ok-spot.spot c.in_ok-spot.ensures _ (rw (sym c.shares.ensures) c.in_err-unshared.ensures), refl)
-
-pub invariant_of-placed : goal.invariant_of-placed
-invariant_of-placed g c =
-    let st : State = state g.B.Allocator.meaning c.args.self.now c.args.region.now in
-    link.places st c.args.h c.in_ok-spot.spot c.in_ok-spot.ensures c.base.result c.base.ensures
+    rw (p.1, p.2) (refused (unsharing st c.args.h.handle c.args.h.shared) c.in_ok-spot.spot c.in_ok-spot.ensures _ (rw (sym c.shares.ensures) c.in_err-unshared.ensures), refl)
 
 -- what the call did
-granted : (g : given.Over) (c : After-put g) → let st : State = state g.B.Allocator.meaning c.args.self.now c.args.region.now in Grants st (TryIntoMut c.args.h) 0 (over st (lines_of c.put.new.self) st.meaning st.bytes)
+granted : (g : given.Over) (c : After-put g) → let st : State = state g.B.Allocator.meaning c.args.self.now c.args.region.now in Grants st (TryIntoMut c.args.h.handle) 0 (over st (lines_of c.put.new.self) st.meaning st.bytes)
 unfolding shared_by
 granted g c =
     let st : State = state g.B.Allocator.meaning c.args.self.now c.args.region.now in
-    puts (unsharing st c.args.h c.requires.shared) c.in_ok-spot.spot c.in_ok-spot.ensures c.unfrozen.result (lines_of c.put.new.self) (rw (sym c.shares.ensures) c.in_ok-unshared.ensures.0, c.unfrozen.ensures ∙ link.unfrozen_base st c.base.result c.in_ok-spot.spot.line c.in_ok-spot.spot.line.backing c.base.ensures) c.put.ensures
+    puts (unsharing st c.args.h.handle c.args.h.shared) c.in_ok-spot.spot c.in_ok-spot.ensures c.unfrozen.result (lines_of c.put.new.self) (rw (sym c.shares.ensures) c.in_ok-unshared.ensures.0, c.unfrozen.ensures ∙ link.unfrozen_base st c.base.result c.in_ok-spot.spot.line c.in_ok-spot.spot.line.backing c.base.ensures) c.put.ensures
 
 pub returns : goal.returns
 returns g c = granted g (goal.at.returns g c).After-put
@@ -38,4 +33,4 @@ returns g c = granted g (goal.at.returns g c).After-put
 pub invariant_of-self : goal.invariant_of-self
 invariant_of-self g c =
     let st : State = state g.B.Allocator.meaning c.args.self.now c.args.region.now in
-    after st c.in_ok-spot.ensures.ready (TryIntoMut c.args.h) 0 _ tt (granted g (goal.at.invariant_of-self g c).After-put)
+    after st c.in_ok-spot.ensures.ready (TryIntoMut c.args.h.handle) 0 _ tt (granted g (goal.at.invariant_of-self g c).After-put)

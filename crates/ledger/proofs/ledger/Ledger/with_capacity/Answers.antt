@@ -6,7 +6,7 @@ use Rattle.model.specs.Calls.{Call, WithCapacity}
 use Rattle.ledger.specs.Results.{Grants}
 use Rattle.ledger.specs.View.{state}
 use Rattle.ledger.proofs.Edits.{over_next}
-use Rattle.ledger.proofs.Makes.{asks_long, claims_one, makes, spaced}
+use Rattle.ledger.proofs.Makes.{asks_long, claims_one, makes, spaced, wide_terms}
 use Rattle.ledger.proofs.Ties.{after_typed}
 use Rattle.ledger.proofs.ledger.Ledger.with_capacity.Given as given
 use Rattle.ledger.proofs.ledger.Ledger.with_capacity.Goals as goal
@@ -21,6 +21,9 @@ pub invariant_of-seat : goal.invariant_of-seat
 invariant_of-seat g c =
     let st : State = state g.B.Allocator.meaning c.args.self.now c.args.region.now in
     record { spaced = spaced st c.args.terms.kind c.args.capacity c.args.terms.claim c.args.terms.preferred c.in_ok-plan.plan c.in_ok-plan.ensures (claims_one c.args.terms.fair) c.in_ok-got.got (g.B.Allocator.meaning c.obtain.new.allocator) c.in_ok-got.ensures.1 }
+
+pub planned_line-requires : goal.planned_line-requires
+planned_line-requires g c = wide_terms c.args.terms.fair
 
 -- what the call did
 granted : (g : given.Over) (c : After-add g) → let st : State = state g.B.Allocator.meaning c.args.self.now c.args.region.now in let st' : State = over_next st c.add.new.self.next (lines_of c.add.new.self.book) (g.B.Allocator.meaning c.obtain.new.allocator) c.args.region.now in let call : Call = WithCapacity c.args.terms.kind c.args.capacity c.args.terms.claim c.args.terms.preferred in Grants st call c.in_ok-plan.plan.serial st'
