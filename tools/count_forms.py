@@ -40,6 +40,11 @@ def grep(pattern, skip=None):
     return rows
 
 
+def listed(*patterns):
+    for title, pattern in patterns:
+        show(title, grep(pattern))
+
+
 class Fn:
     def __init__(self, path, line, name, params, clauses, body):
         self.path, self.line, self.name, self.params, self.clauses, self.body = path, line, name, params, clauses, body
@@ -86,10 +91,12 @@ FNS = functions()
 TOKEN = re.compile(r"\w+|[^\s\w]")
 
 print("# 1. Own Option, Result, flags with a value, numbers for kinds or refusals")
-show("enums", grep(r"\benum \w+"))
-show("numbers for refusals or kinds", grep(r"-> u8\b|Refused\(u8\)|\.number\(\)|Empty\(0\)|Empty\(u32\)"))
-show("functions that always say yes", grep(r"result ≡ true\) ×"))
-show("flags in fields and variants", grep(r"(^\s*(pub(\(crate\))? )?\w+: bool,)|\w+\(.*\bbool\)?,"))
+listed(
+    ("enums", r"\benum \w+"),
+    ("numbers for refusals or kinds", r"-> u8\b|Refused\(u8\)|\.number\(\)|Empty\(0\)|Empty\(u32\)"),
+    ("functions that always say yes", r"result ≡ true\) ×"),
+    ("flags in fields and variants", r"(^\s*(pub(\(crate\))? )?\w+: bool,)|\w+\(.*\bbool\)?,"),
+)
 
 print("# 2. Twins: functions whose bodies have 20 tokens or more and are nearly the same")
 group = {}
@@ -107,16 +114,20 @@ for (i, f, a), (j, g, b) in itertools.combinations(fns, 2):
                 group[k] = one
 groups = {id(v): v for v in group.values()}.values()
 show("groups", [", ".join(FNS[k].where() for k in sorted(v)) for v in groups])
-show("structs and enums", grep(r"^\s*(pub(\(crate\))? )?(struct|enum) \w+"))
+listed(
+    ("structs and enums", r"^\s*(pub(\(crate\))? )?(struct|enum) \w+"),
+)
 
 print("# 3. Loops")
 show("loops", grep(r"^\s*(\w+ = )?('\w+: )?(for .* in |while |loop\b)", skip=r"impl|for \w+ \{"))
 
 print("# 4. Equality, order, copying, conversion, printing by hand")
-show("comparisons joined by &&", grep(r"==.*&&.*==|^\s*&& .*==|\.is\("))
-show("functions named as conversions", grep(r"fn (as|to|from|into|of|in|with)_\w+\(|fn \w+_(of|at|in)\b|fn (request|number|words|refused)\b"))
-show("impls of conversions and printing", grep(r"impl.*\b(From|TryFrom|Into|FromStr|Display|PartialEq|Ord|Clone)\b.* for "))
-show("functions that give fixed words", grep(r"-> &'static str"))
+listed(
+    ("comparisons joined by &&", r"==.*&&.*==|^\s*&& .*==|\.is\("),
+    ("functions named as conversions", r"fn (as|to|from|into|of|in|with)_\w+\(|fn \w+_(of|at|in)\b|fn (request|number|words|refused)\b"),
+    ("impls of conversions and printing", r"impl.*\b(From|TryFrom|Into|FromStr|Display|PartialEq|Ord|Clone)\b.* for "),
+    ("functions that give fixed words", r"-> &'static str"),
+)
 
 print("# 5. Facts in three contracts or more, parameters that travel together")
 facts = {}
@@ -135,9 +146,13 @@ rows = [f"{len(v)} x ({', '.join(k)}): {', '.join(sorted(set(x.name for x in v))
 show("parameters together in three functions or more", sorted(rows, key=lambda r: -int(r.split()[0])))
 
 print("# 6. Buffers with a length, parallel arrays, searched lists")
-show("arrays and counts", grep(r"\[\w+; \w+\]|\bcount: usize"))
-show("lists searched", grep(r"\.position\(|\.rposition\(|\.find\(|fn (find|position)\b"))
+listed(
+    ("arrays and counts", r"\[\w+; \w+\]|\bcount: usize"),
+    ("lists searched", r"\.position\(|\.rposition\(|\.find\(|fn (find|position)\b"),
+)
 
 print("# 7. Switches on a step, tables of functions")
-show("matches on a chosen way", grep(r"match \w*(placing|kind|command|call|desk|state)\b"))
-show("function pointers and dyn", grep(r"\bfn\(|dyn "))
+listed(
+    ("matches on a chosen way", r"match \w*(placing|kind|command|call|desk|state)\b"),
+    ("function pointers and dyn", r"\bfn\(|dyn "),
+)
