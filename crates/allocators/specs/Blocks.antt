@@ -5,7 +5,9 @@ use Rattle.std.proofs.Math.Path.{refl, sym, subst}
 use Rattle.std.proofs.Common.{ap, ◌∙◌, arith}
 use Rattle.std.specs.List.{remove, position, position_or_len}
 use Rattle.std.proofs.lemmas.List.Quantifiers.{position-Some}
-use Rattle.std.proofs.lemmas.Bool.{and_parts, and_from, or_cases, or_left, or_right, or_parts, leb-true, leb-false, ltb-true, eqb-true, le-leb, lt-ltb, eq-eqb, cases_Bool, cases_lt, cond_both, both_ways}
+use Rattle.std.proofs.lemmas.List.Folds.{list_any-append, list_any_at, list_any_none}
+use Rattle.std.proofs.lemmas.List.Sums.{fails_before_first}
+use Rattle.std.proofs.lemmas.Bool.{and_parts, and_from, or_cases, or_left, or_right, or_from, or_parts, leb-true, leb-false, ltb-true, eqb-true, le-leb, lt-ltb, eq-eqb, cases_Bool, cases_lt, cond_both, both_ways}
 use Rattle.allocation.specs.declared.block.Block.{Block}
 use Rattle.allocation.specs.declared.block.Request.{Request}
 use Rattle.allocation.specs.Faults.{block_at, same_block, is_among}
@@ -162,6 +164,25 @@ not_clear_place b c h =
     let p = or_parts (nat_le (end_of b) c.place) (nat_le (end_of c) b.place) h in
     (leb-false _ _ p.0, leb-false _ _ p.1)
 
+-- ---- looking for a block in a list
+pub is_among_more : (xs : List Block) (c b : Block) → is_among b xs ≡ false → same_block c b ≡ false → is_among b (xs ++ c ∷ []) ≡ false
+is_among_more xs c b h k = list_any-append (λ x. same_block x b) xs (c ∷ []) ∙ or_from _ _ h (or_from _ _ k refl)
+
+pub is_among_at : (xs : List Block) (i : ℕ) (b : Block) → i < length xs → same_block (slice_index_or xs i no_block) b ≡ true → is_among b xs ≡ true
+is_among_at xs i b l h = list_any_at (λ c. same_block c b) xs i no_block l h
+
+pub found_among : (xs : List Block) (i : ℕ) (b : Block) → position (λ c. same_block c b) xs ≡ Some i → is_among b xs ≡ true
+found_among xs i b h = let p = position-Some (λ c. same_block c b) xs i no_block h in is_among_at xs i b p.0 p.1
+
+pub missing_among : (xs : List Block) (b : Block) → position (λ c. same_block c b) xs ≡ None → is_among b xs ≡ false
+missing_among xs b h =
+    let same : Block → Bool = λ c. same_block c b in
+    let i = position_or_len same xs in
+    elim (cases_lt i (length xs)) [
+      | inl below ↦ let e = rw (lt-ltb i (length xs) below) at h in cc
+      | inr above ↦ list_any_none same xs (λ k d l. fails_before_first same xs k d (omega arith))
+    ]
+
 -- ---- taking a block out of a list
 without_at : (xs : List Block) (i : ℕ) (b : Block) → i < length xs → same_block (get_or xs i no_block) b ≡ true → ((k : ℕ) → k < i → same_block (get_or xs k no_block) b ≡ false) → without xs b ≡ remove xs i
 without_at [] i b l here before = absurd (omega arith)
@@ -169,22 +190,16 @@ without_at (x ∷ xs) zero b l here before = rw here
 without_at (x ∷ xs) (suc i) b l here before =
     rw (before 0 (omega arith)) (ap (λ ys. x ∷ ys) (without_at xs i b (omega arith) here (λ k h. before (suc k) (omega arith))))
 
-without_none : (xs : List Block) (b : Block) → length xs ≤ position_or_len (λ c. same_block c b) xs → without xs b ≡ xs
+pub without_none : (xs : List Block) (b : Block) → is_among b xs ≡ false → without xs b ≡ xs
 without_none [] b h = refl
-without_none (x ∷ xs) b h =
-    elim (cases_Bool (same_block x b)) [
-      | inl same ↦ absurd (let e = rw same at h in omega arith)
-      | inr other ↦ let e = rw other at h in rw other (ap (λ ys. x ∷ ys) (without_none xs b (omega arith)))
-    ]
+without_none (x ∷ xs) b h = let p = or_parts (same_block x b) (is_among b xs) h in rw p.0 (ap (λ ys. x ∷ ys) (without_none xs b p.1))
 
 -- a block that was looked for by its first index
 pub without_found : (xs : List Block) (b : Block) (i : ℕ) → position (λ c. same_block c b) xs ≡ Some i → without xs b ≡ remove xs i
 without_found xs b i h = let p = position-Some (λ c. same_block c b) xs i no_block h in without_at xs i b p.0 p.1 p.2
 
 pub without_missing : (xs : List Block) (b : Block) → position (λ c. same_block c b) xs ≡ None → without xs b ≡ xs
-without_missing xs b h =
-    let i = position_or_len (λ c. same_block c b) xs in
-    elim (cases_lt i (length xs)) [ inl below ↦ let e = rw (lt-ltb i (length xs) below) at h in cc | inr above ↦ without_none xs b above ]
+without_missing xs b h = without_none xs b (missing_among xs b h)
 
 pub without_length : (xs : List Block) (b : Block) → is_among b xs ≡ true → length (without xs b) + 1 ≡ length xs
 without_length [] b h = absurd (both_ways false refl h)

@@ -1,5 +1,5 @@
 -- When a request is granted, and at which place.
-use Rattle.std.specs.Prelude.{◌≡◌, ℕ, zero, suc, ◌+◌, ◌-◌, ◌%◌, ◌<◌, ◌≤◌, max, Bool, true, false, ◌&&◌, List, [], ◌∷◌, length, Some, None, Option, fold, MatchOption, nat_le, nat_lt, refl}
+use Rattle.std.specs.Prelude.{◌≡◌, ℕ, zero, suc, ◌+◌, ◌-◌, ◌%◌, ◌<◌, ◌≤◌, max, Bool, true, false, ◌&&◌, List, [], ◌∷◌, ◌++◌, length, Some, None, Option, fold, MatchOption, nat_le, nat_lt, refl}
 use Rattle.std.proofs.Common.{inl, inr, subst, arith, lit<}
 use Rattle.std.proofs.lemmas.Bool.{and_from, and_left, and_right, and_parts, or_left, or_right, or_from, or_cases, ltb-true, lt-ltb, leb-true, le-leb, lt-leb, cases_eq, cases_lt, both_ways}
 use Rattle.allocation.specs.declared.block.Block.{Block}
@@ -78,6 +78,10 @@ empty_grants base n r pos some le =
     granted base n [] 0 r p.0 (lit< tt) (omega arith) (record { filled = some; within = omega arith; aligned = p.2; apart = λ c a. absurd a })
 
 -- ---- the end of the highest block
+pub highest_push : (xs : List Block) (b : Block) → highest_end (xs ++ b ∷ []) ≡ max (highest_end xs) (end_of b)
+highest_push [] b = omega arith
+highest_push (x ∷ xs) b = let h = highest_push xs b in omega arith
+
 pub fold_highest : (a : ℕ) (xs : List Block) → fold (λ e b. max e (end_of b)) a xs ≡ max a (highest_end xs)
 fold_highest a [] = omega arith
 fold_highest a (x ∷ xs) = let h = fold_highest (max a (end_of x)) xs in omega arith

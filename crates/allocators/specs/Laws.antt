@@ -46,6 +46,9 @@ module _ (base n : ℕ) (xs : List Block) (ok : sound base n xs ≡ true) where
   pub sound_added : (r : Request) (p : ℕ) → Fits base n xs r p → (ys : List Block) → ys ≡ xs ++ block_at p r ∷ [] → sound base n ys ≡ true
   sound_added r p f ys e = rw e (sound_push base n xs (block_at p r) ok (fits_lies base n xs r p f) (clear_of_from (block_at p r) xs f.apart))
 
+  pub sound_regrown : (b d : Block) → Free base n xs b d → (ys : List Block) → ys ≡ without xs b ++ d ∷ [] → sound base n ys ≡ true
+  sound_regrown b d f ys e = rw e (sound_push base n (without xs b) d (sound_without base n xs b ok) f.inside f.clear)
+
   -- where the lowest place is
   fits_free : (b : Block) (r : Request) (p : ℕ) → Fits base n xs r p → Free base n xs b (block_at p r)
   fits_free b r p f =
@@ -54,29 +57,23 @@ module _ (base n : ℕ) (xs : List Block) (ok : sound base n xs ≡ true) where
         clear = clear_of_from (block_at p r) (without xs b) (λ c a. f.apart c ((among_without base n c b xs ok).0 a).0);
       }
 
-  -- a block that was grown, in its place
-  module _ (k : Placing) (fair : Fair k) (b : Block) (r : Request) (p : ℕ) (may : may_grow xs b r ≡ true) (g : Regrown k base n xs b r p) where
-    regrown_free : Free base n xs b (block_at p r)
-    regrown_free =
-        let live = among_true b xs (and_parts (is_among b xs) (nat_le b.size r.size) may).0 in
-        elim (cases_Bool (k.staying base n xs b r)) [
-          | inl stay ↦ subst (λ q. Free base n xs b (block_at q r)) (sym (g.stayed stay)) (fair.room base n xs ok b r live stay)
-          | inr move ↦ fits_free b r p (g.moved move).fitting
-        ]
+  -- the place of a block that was grown
+  pub regrown_free : (k : Placing) → Fair k → (b : Block) (r : Request) (p : ℕ) → may_grow xs b r ≡ true → Regrown k base n xs b r p → Free base n xs b (block_at p r)
+  regrown_free k fair b r p may g =
+      let live = among_true b xs (and_parts (is_among b xs) (nat_le b.size r.size) may).0 in
+      elim (cases_Bool (k.staying base n xs b r)) [
+        | inl stay ↦ subst (λ q. Free base n xs b (block_at q r)) (sym (g.stayed stay)) (fair.room base n xs ok b r live stay)
+        | inr move ↦ fits_free b r p (g.moved move).fitting
+      ]
 
-    -- both parts that the growth moves bytes between lie in the region
-    pub regrown_within : (end_of b ≤ n) × (p + b.size ≤ n) × (b.size ≤ r.size)
-    regrown_within =
-        let q = and_parts (is_among b xs) (nat_le b.size r.size) may in
-        let old = sound_among base n xs ok b (among_true b xs q.0) in
-        let new = lies_true base n (block_at p r) regrown_free.inside in
-        let le = leb-true b.size r.size q.1 in
-        (old.within, omega arith, le)
-
-    pub sound_regrown : (ys : List Block) → ys ≡ without xs b ++ block_at p r ∷ [] → sound base n ys ≡ true
-    sound_regrown ys e =
-        let f = regrown_free in
-        rw e (sound_push base n (without xs b) (block_at p r) (sound_without base n xs b ok) f.inside f.clear)
+  -- both parts that a growth moves bytes between lie in the region
+  pub regrown_within : (b : Block) (r : Request) (p : ℕ) → may_grow xs b r ≡ true → Free base n xs b (block_at p r) → (end_of b ≤ n) × (p + b.size ≤ n) × (b.size ≤ r.size)
+  regrown_within b r p may f =
+      let q = and_parts (is_among b xs) (nat_le b.size r.size) may in
+      let old = sound_among base n xs ok b (among_true b xs q.0) in
+      let new = lies_true base n (block_at p r) f.inside in
+      let le = leb-true b.size r.size q.1 in
+      (old.within, omega arith, le)
 
   module _ (k : Placing) (fair : Fair k) (long : 1024 ≤ n) where
     pub lawful_by : Lawful (meaning_by k base n xs)
@@ -112,12 +109,11 @@ module _ (k : Placing) (fair : Fair k) (base n : ℕ) (long : 1024 ≤ n) (xs : 
         live = λ c. subst (λ zs. Among c zs ↔ (Among c xs × (c ≢ b))) (sym e) (among_without base n c b xs ok);
       }
 
-  pub grows_by : (b : Block) (r : Request) (p : ℕ) (before after : List ℕ) → may_grow xs b r ≡ true → Regrown k base n xs b r p → length before ≡ n → ys ≡ without xs b ++ block_at p r ∷ []
+  pub grows_by : (b : Block) (r : Request) (p : ℕ) (before after : List ℕ) → may_grow xs b r ≡ true → Free base n xs b (block_at p r) → length before ≡ n → ys ≡ without xs b ++ block_at p r ∷ []
       → after ≡ overwrite p (part b.place b.size before) before → Grows (meaning_by k base n xs) b r (block_at p r) (meaning_by k base n ys) before after
-  grows_by b r p before after may g len e moved =
+  grows_by b r p before after may f len e moved =
       let d = block_at p r in
-      let f = regrown_free base n xs ok k fair b r p may g in
-      let w = regrown_within base n xs ok k fair b r p may g in
+      let w = regrown_within base n xs ok b r p may f in
       let bytes = part b.place b.size before in
       let count : length bytes ≡ b.size = length_part b.place b.size before (omega arith) in
       let some = (lies_true base n d f.inside).some in
@@ -130,7 +126,7 @@ module _ (k : Placing) (fair : Fair k) (base n : ℕ) (long : 1024 ≤ n) (xs : 
       ) in
       record {
         fixed = record { base = refl; extent = refl; room = refl; copies = refl };
-        lawful = lawful_by base n ys (sound_regrown base n xs ok k fair b r p may g ys e) k fair long;
+        lawful = lawful_by base n ys (sound_regrown base n xs ok b d f ys e) k fair long;
         size = refl;
         align = refl;
         new = λ a. elim (cases_block d b) [

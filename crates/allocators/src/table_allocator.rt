@@ -161,10 +161,9 @@ impl<P: Placement> Allocator for TableAllocator<P> {
         if !self.arena.serves(region) {
             return Err(Fault::by_allocator(Refusal::RegionDiffers, given));
         }
-        if !self.arena.holds(block) {
+        if !take_out(&mut self.arena.live, block) {
             return Err(Fault::by_allocator(Refusal::NoSuchBlock, given));
         }
-        take_out(&mut self.arena.live, block);
         Ok(())
     }
 

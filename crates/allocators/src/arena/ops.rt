@@ -34,14 +34,17 @@ fn index_of(live: &[Block], block: Block) -> Option<usize>
     live.iter().position(|b| *b == block)
 }
 
-// Takes a block out of the live ones, if it is there.
-pub(crate) fn take_out(live: &mut ArrayVec<Block, LINES>, block: Block)
+// Takes a block out of the live ones; answers whether it was there.
+pub(crate) fn take_out(live: &mut ArrayVec<Block, LINES>, block: Block) -> bool
+    ensures found { result ≡ is_among block live.old.items }
     ensures taken { live.new.items ≡ without live.old.items block }
     ensures few { length live.old.items ≤ 64 }
 {
-    if let Some(i) = index_of(live.as_slice(), block) {
-        live.remove(i);
-    }
+    let Some(i) = index_of(live.as_slice(), block) else {
+        return false;
+    };
+    live.remove(i);
+    true
 }
 
 // Puts a block behind the live ones in the place of one of them.
