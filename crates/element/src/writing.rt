@@ -21,7 +21,10 @@ pub fn read_at<K: Element>(bytes: &[u8], index: usize) -> Option<K>
         (λ x. (index * K.Element.width + K.Element.width ≤ length bytes.now)
         × (K.Element.pattern x ≡ part (index * K.Element.width) K.Element.width bytes.now)) }
 {
-    let from = index.checked_mul(K::width())?;
-    let end = from.checked_add(K::width())?;
-    Some(K::get(bytes.get(from..end)?))
+    let width = K::width();
+    if index >= bytes.len() / width {
+        return None;
+    }
+    let from = index * width;
+    Some(K::get(&bytes[from..from + width]))
 }

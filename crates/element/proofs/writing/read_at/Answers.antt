@@ -1,14 +1,21 @@
-use Rattle.std.proofs.Common.{◌≡◌, ◌*◌, ◌-◌, take, drop, ap, ◌∙◌, arith}
+use Rattle.std.proofs.Common.{◌≡◌, ◌+◌, ◌-◌, ◌*◌, ◌<◌, length, take, drop, ap, ◌∙◌, arith}
 use Rattle.region.specs.Bytes.{part}
+use Rattle.element.proofs.Behind.{wide, ends_inside, ends_outside}
 use Rattle.element.proofs.writing.read_at.Goals as goal
+
+pub returns-then-index-bytes : goal.returns-then-index-bytes
+returns-then-index-bytes g c =
+    let w = c.width-width.result in
+    let positive : 0 < w = omega (arith, c.width-width.ensures, wide g.met.K.Element.shaped) in
+    rw (← c.width-width.ensures) (ends_outside c.args.index (length c.args.bytes.now) w positive c.if-index-bytes.true)
 
 pub returns : goal.returns
 unfolding part
 returns g c =
     let bs = c.args.bytes.now in
-    let w = g.K.Element.width in
-    let from = c.in_ok-from.from in
-    let found = c.in_ok-get.ensures.lookup.0 in
-    let start : from ≡ c.args.index * w = c.in_ok-from.ensures.1 ∙ ap (λ v. c.args.index * v) c.width.ensures in
-    let long : c.in_ok-end.end - from ≡ w = omega (arith, c.in_ok-end.ensures, c.width-2.ensures) in
-    (omega (arith, start, found.1, c.in_ok-end.ensures, c.width-2.ensures), c.get-2.ensures ∙ found.2 ∙ ap (λ n. take n (drop from bs)) long ∙ ap (λ k. take w (drop k bs)) start)
+    let i = c.args.index in
+    let w = c.width-width.result in
+    let positive : 0 < w = omega (arith, c.width-width.ensures, wide g.met.K.Element.shaped) in
+    let inside = ends_inside i (length bs) w positive c.if-index-bytes.false in
+    let count : i * w + w - i * w ≡ w = omega arith in
+    rw (← c.width-width.ensures) (inside, c.get.ensures ∙ ap (λ n. take n (drop (i * w) bs)) count)
