@@ -2,13 +2,14 @@
 use Rattle.std.proofs.Common.{◌≡◌, ℕ, ◌+◌, ◌*◌, max, Bool, true, false, cond, List, [], ◌∷◌, ◌++◌, length, Some, None, refl, ap, arith}
 use Rattle.allocation.specs.declared.fault.Fault.{Fault}
 use Rattle.allocation.specs.Meaning.{Meaning}
+use Rattle.std.specs.declared.ops.Bound.{Bound}
 use Rattle.model.specs.declared.line.Handle.{Handle}
 use Rattle.model.specs.declared.line.Kind.{Kind}
 use Rattle.model.specs.declared.line.Line.{Line}
 use Rattle.model.specs.Book.{State, line, shared_by}
 use Rattle.model.specs.Calls.{WithCapacity, Zeroed, CopyFrom, EmptyShared, Set, FromBytes, TryIntoMut, EnsureAligned}
-use Rattle.model.specs.Checks.{Check, refusal, block_checks, enough, reserve_checks, own}
-use Rattle.checks.specs.Groups.{below_kind, size_checks, grant_check, growth_checks, room_check, aligned_checks, regroup_checks, index_check, shared_check}
+use Rattle.model.specs.Checks.{Check, refusal, block_checks, enough, reserve_checks, begin, finish, slice_checks, own}
+use Rattle.checks.specs.Groups.{below_kind, size_checks, grant_check, growth_checks, room_check, range_checks, placing_checks, aligned_checks, regroup_checks, index_check, shared_check}
 
 -- a group that refuses nothing leaves the refusal to the next, and one that refuses has the word
 pub passes : (xs ys : List Check) → refusal xs ≡ None → refusal (xs ++ ys) ≡ refusal ys
@@ -56,6 +57,10 @@ reserve_enough m l more e = rw e
 
 pub reserve_grows : (m : Meaning) (l : Line) (more : ℕ) → enough l more ≡ false → reserve_checks m l more ≡ growth_checks l more ++ room_check m l more
 reserve_grows m l more e = rw e
+
+-- slices
+pub slice_groups : (l : Line) (first last : Bound ℕ) (a : ℕ) → slice_checks l first last a ≡ range_checks first last l.len ++ placing_checks l (begin first) (finish last l.len) a
+slice_groups l first last a = refl
 
 -- the others
 pub from_bytes_own : (st : State) (h : Handle) (k : Kind) (a : ℕ) → own st (FromBytes h k a) ≡ regroup_checks (line st h) k a

@@ -16,7 +16,7 @@ use allocation::fault::{Fault, Refusal};
 use allocation::layout::Layout;
 use model::line::{Kind, Line};
 use sizes::{grown, is_aligned};
-use std::ops::{Bound, Range};
+use std::ops::Bound;
 
 // The alignment is at least that of the kind.
 pub fn fits_kind(kind: Kind, claim: usize) -> Result<(), Fault>
@@ -92,6 +92,13 @@ pub fn room_for(line: Line, more: usize) -> Result<Room, Fault>
     Ok(Room { bytes, layout })
 }
 
+// A range of elements: its first, and the one behind its last. The library's `Range` is not `Copy`.
+#[derive(Clone, Copy)]
+pub struct Range {
+    pub begin: usize,
+    pub end: usize,
+}
+
 // The first element of a range.
 fn begin_of(first: Bound<usize>) -> Result<usize, Fault>
     ensures { MatchResult result
@@ -120,9 +127,9 @@ fn end_of(last: Bound<usize>, len: usize) -> Result<usize, Fault>
 
 // The range between two bounds, among so many elements.
 // The bounds come one by one, since `RangeBounds` would ask of every caller that the range's ends are known.
-pub fn range_of(first: Bound<usize>, last: Bound<usize>, len: usize) -> Result<Range<usize>, Fault>
+pub fn range_of(first: Bound<usize>, last: Bound<usize>, len: usize) -> Result<Range, Fault>
     ensures { MatchResult result
-        (λ e. (e.start ≡ begin first) × (e.end ≡ finish last len) × (e.start ≤ e.end) × (e.end ≤ len) × (refusal (range_checks first last len) ≡ None))
+        (λ e. (e.begin ≡ begin first) × (e.end ≡ finish last len) × (e.begin ≤ e.end) × (e.end ≤ len) × (refusal (range_checks first last len) ≡ None))
         (λ f. refusal (range_checks first last len) ≡ Some f) }
 {
     let begin = begin_of(first)?;
@@ -133,24 +140,24 @@ pub fn range_of(first: Bound<usize>, last: Bound<usize>, len: usize) -> Result<R
     if len < end {
         return Err(Refusal::RangeBeyondLength.into());
     }
-    Ok(begin..end)
+    Ok(Range { begin, end })
 }
 
 // Whether a range that holds an element starts at a place that is no multiple of the alignment.
-fn misplaced(range: &Range<usize>, place: usize, align: usize) -> bool
-    ensures { result ≡ misplaced range.now.start range.now.end place align }
+fn misplaced(range: Range, place: usize, align: usize) -> bool
+    ensures { result ≡ misplaced range.begin range.end place align }
 {
-    !range.is_empty() && !place.is_multiple_of(align)
+    range.begin < range.end && !place.is_multiple_of(align)
 }
 
 // A slice may claim the alignment.
-pub fn slice_claims(line: Line, range: &Range<usize>, claim: usize) -> Result<(), Fault>
-    requires { line.start + range.now.start * line.kind.width < 2 ^ 64 }
+pub fn slice_claims(line: Line, range: Range, claim: usize) -> Result<(), Fault>
+    requires { line.start + range.begin * line.kind.width < 2 ^ 64 }
     ensures { MatchResult result
-        (λ _. refusal (placing_checks line range.now.start range.now.end claim) ≡ None)
-        (λ f. refusal (placing_checks line range.now.start range.now.end claim) ≡ Some f) }
+        (λ _. refusal (placing_checks line range.begin range.end claim) ≡ None)
+        (λ f. refusal (placing_checks line range.begin range.end claim) ≡ Some f) }
 {
-    let offset = range.start * line.kind.width;
+    let offset = range.begin * line.kind.width;
     if misplaced(range, offset, claim) {
         return Err(Refusal::OffsetUnaligned.into());
     }
@@ -169,14 +176,14 @@ pub fn slices(
     first: Bound<usize>,
     last: Bound<usize>,
     claim: usize,
-) -> Result<Range<usize>, Fault>
+) -> Result<Range, Fault>
     requires { line.start + line.len * line.kind.width < 2 ^ 64 }
     ensures { MatchResult result
-        (λ e. (e.start ≡ begin first) × (e.end ≡ finish last line.len) × (line.start + e.start * line.kind.width < 2 ^ 64) × (refusal (slice_checks line first last claim) ≡ None))
+        (λ e. (e.begin ≡ begin first) × (e.end ≡ finish last line.len) × (line.start + e.begin * line.kind.width < 2 ^ 64) × (refusal (slice_checks line first last claim) ≡ None))
         (λ f. refusal (slice_checks line first last claim) ≡ Some f) }
 {
     let range = range_of(first, last, line.len)?;
-    slice_claims(line, &range, claim)?;
+    slice_claims(line, range, claim)?;
     Ok(range)
 }
 

@@ -1,6 +1,7 @@
 -- From what a copy did to what the definitions say of it: one argument for all calls that may copy.
 use Rattle.std.proofs.Common.{◌≡◌, ℕ, ◌+◌, ◌-◌, ◌*◌, ◌≤◌, max, Bool, true, false, not, cond, ltb, List, [], ◌∷◌, ◌++◌, length, set, Some, None, Option, sym, refl, ap, ◌∙◌, subst, inl, inr, mul-le-mul_right, zero-mul, arith}
 use Rattle.allocation.specs.Alignments.{IsAlignment, round_up}
+use Rattle.allocation.specs.Asked.{asked}
 use Rattle.allocation.specs.Meaning.{Meaning}
 use Rattle.allocation.specs.declared.block.Block.{Block}
 use Rattle.allocation.specs.declared.block.Request.{Request}
@@ -13,7 +14,7 @@ use Rattle.checks.proofs.Joins.{passes, stops, block_as}
 use Rattle.model.specs.Book.{State, block_of, line, serial_of, shared_by, shown}
 use Rattle.model.specs.Calls.{Aligned, AlignedMut, Call, Grant, done, preferred_alignment}
 use Rattle.model.specs.Checks.{Check, refusal, brings, own, checks, block_checks, is_aligned, request_for, uses}
-use Rattle.model.specs.Effects.{Copies, Does, GivesBack, Obtains, StaysOr, backing_in, block_left, capacity_in, copied_into, list_of, put_line, unfrozen, with_bytes, with_claim, with_meaning, written_in}
+use Rattle.model.specs.Effects.{Copies, Does, GivesBack, Obtains, StaysOr, backing_in, capacity_in, copied_into, list_of, put_line, unfrozen, with_bytes, with_claim, with_meaning, written_in}
 use Rattle.model.specs.Invariant.{KeptLine, Sits}
 use Rattle.model.specs.Runs.{Sound}
 use Rattle.model.specs.declared.line.Handle.{Handle}
@@ -21,12 +22,14 @@ use Rattle.model.specs.declared.line.Line.{Line}
 use Rattle.model.proofs.Checks.{held}
 use Rattle.model.proofs.Getting.{obtained, Obtained}
 use Rattle.model.proofs.Keyed.{all_find}
-use Rattle.ledger.specs.Copying.{Fitting, Copying, Copied, aligning, copy_checks, copy_size}
+use Rattle.model.proofs.Making.{block_got}
+use Rattle.ledger.specs.Copying.{Fitting, PlannedCopy, Copying, Copied, aligning, copy_checks, copy_size}
 use Rattle.ledger.specs.Entry.{Admitted}
 use Rattle.ledger.specs.Giving.{give_fault}
 use Rattle.ledger.specs.Making.{asking}
 use Rattle.ledger.specs.Moving.{Copyable}
 use Rattle.ledger.specs.Results.{Grants}
+use Rattle.ledger.specs.declared.copy_plan.CopyPlan.{CopyPlan}
 use Rattle.ledger.specs.declared.spot.Spot.{Spot}
 use Rattle.ledger.proofs.Edits.{is_line, serial_is, put_is, put_only, over}
 use Rattle.ledger.proofs.Groups.{bringing, known_by, used}
@@ -37,88 +40,76 @@ use Rattle.ledger.proofs.Releases.{taken_back, left_own}
 pub copy_unsized : (m : Meaning) (l : Line) (c claim k : ℕ) → k ≡ max claim preferred_alignment → (f : Fault) → refusal (size_checks (c * l.kind.width + k)) ≡ Some f → refusal (copy_checks m l c claim) ≡ Some f
 copy_unsized m l c claim k ek f q = stops (size_checks (copy_size l c claim)) (grant_check m c (copy_size l c claim)) f (ap (λ z. refusal (size_checks (c * l.kind.width + z))) (sym ek) ∙ q)
 
--- a copy with the base and the alignment that the code read, and the request that it made
-module _ (m : Meaning) (n : ℕ) (l : Line) (shared : Bool) (c claim : ℕ) (v : Copying m n l shared c claim) (base k : ℕ) (eb : base ≡ m.base) (ek : k ≡ max claim preferred_alignment) (r : Request) (er : r ≡ request_for (c * l.kind.width + k)) where
-  one : 1 ≤ k
-  one = subst (λ z. 1 ≤ z) (sym ek) (omega arith)
+-- a copy that was planned is refused as its block is
+pub planned_checks : (st : State) (l : Line) (c claim : ℕ) (plan : CopyPlan) → PlannedCopy st l c claim plan → refusal (copy_checks st.meaning l c claim) ≡ refusal (asking st.meaning c (asked plan.layout))
+planned_checks st l c claim plan pl = passes (size_checks (copy_size l c claim)) (grant_check st.meaning c (copy_size l c claim)) pl.passed ∙ ap (λ z. refusal (asking st.meaning c z)) (sym pl.asks)
 
-  request_is : r ≡ request_for (copy_size l c claim)
-  request_is = er ∙ ap (λ z. request_for (c * l.kind.width + z)) ek
+-- a copy by a plan
+module _ (m : Meaning) (n : ℕ) (l : Line) (c : ℕ) (plan : CopyPlan) (v : Copying m n l c plan) where
+  pub copy_long : 1 ≤ plan.layout.size
+  copy_long = let e : plan.layout.size ≡ c * l.kind.width + plan.m = ap (λ (z : Request). z.size) v.asks in omega (arith, v.one)
 
-  pub copy_long : 1 ≤ r.size
-  copy_long = let e : r.size ≡ c * l.kind.width + k = ap (λ (z : Request). z.size) er in omega (arith, one)
+  module _ (got : Option Block) (m' : Meaning) (o : Obtains (ltb 0 c) m (asked plan.layout) got m') where
+    as_size : Obtains (ltb 0 c) m (request_for (c * l.kind.width + plan.m)) got m'
+    as_size = subst (λ (z : Request). Obtains (ltb 0 c) m z got m') v.asks o
 
-  pub copy_checked : refusal (size_checks (c * l.kind.width + k)) ≡ None → refusal (copy_checks m l c claim) ≡ refusal (asking m c r)
-  copy_checked q = passes (size_checks (copy_size l c claim)) (grant_check m c (copy_size l c claim)) (ap (λ z. refusal (size_checks (c * l.kind.width + z))) (sym ek) ∙ q) ∙ ap (λ z. refusal (asking m c z)) (sym request_is)
+    got_as : Obtained m m' c (c * l.kind.width + plan.m) got
+    got_as = obtained m m' c (c * l.kind.width + plan.m) got v.lawful as_size
 
-  module _ (got : Option Block) (m' : Meaning) (o : Obtains (ltb 0 c) m r got m') where
-    as_size : Obtains (ltb 0 c) m (request_for (c * l.kind.width + k)) got m'
-    as_size = subst (λ (z : Request). Obtains (ltb 0 c) m z got m') er o
-
-    got_as : Obtained m m' c (c * l.kind.width + k) got
-    got_as = obtained m m' c (c * l.kind.width + k) got v.lawful as_size
-
-    pub copy_spaced : Spaced base k got
-    copy_spaced = subst (λ b. Spaced b k got) (sym eb) (spaced_got (ltb 0 c) m m' (c * l.kind.width + k) k got (omega (arith, v.ends)) one (omega arith) as_size)
+    pub copy_spaced : Spaced plan.base plan.m got
+    copy_spaced = subst (λ b. Spaced b plan.m got) (sym v.base) (spaced_got (ltb 0 c) m m' (c * l.kind.width + plan.m) plan.m got (omega (arith, v.ends)) v.one (omega arith) as_size)
 
     elements : l.len * l.kind.width ≤ c * l.kind.width
     elements = mul-le-mul_right l.kind.width v.room
 
-    pub fitting : Fitting base l n k got
+    pub fitting : Fitting plan.base l n plan.m got
     fitting = go got refl
       where
-        go : (g : Option Block) → got ≡ g → Fitting base l n k g
+        go : (g : Option Block) → got ≡ g → Fitting plan.base l n plan.m g
         go None e = tt
         go (Some b) e = old (block_of l.backing) refl
           where
-            old : (q : Option Block) → block_of l.backing ≡ q → Copyable base l n (round_up (base + b.place) k - base) q
+            old : (q : Option Block) → block_of l.backing ≡ q → Copyable plan.base l n (round_up (plan.base + b.place) plan.m - plan.base) q
             old None d = tt
             old (Some x) d =
                 let inside = got_as.lawful.within b ((got_as.blocks b).1 (inl e)) in (
-                  omega (arith, v.low x d, eb),
-                  omega (arith, v.low x d, v.high x d, eb, v.long),
-                  omega (arith, round_up_high (base + b.place) k one, round_up_low (base + b.place) k, got_as.sized b e, inside, got_as.fixed.extent, elements, v.long),
+                  omega (arith, v.low x d, v.base),
+                  omega (arith, v.low x d, v.high x d, v.base, v.long),
+                  omega (arith, round_up_high (plan.base + b.place) plan.m v.one, round_up_low (plan.base + b.place) plan.m, got_as.sized b e, inside, got_as.fixed.extent, elements, v.long),
                 )
 
-    pub left_goes : (n' : ℕ) (back : Option Block) (f : Fault) → n' ≡ n → back ≡ block_left shared l → give_fault m' n' back ≡ Some f → ⊥
-    left_goes n' back f e eo x = taken_back m' n' back f (e ∙ v.long ∙ sym got_as.fixed.extent) (λ b q. (got_as.blocks b).1 (inr (v.left b (sym eo ∙ q)))) x
+    pub left_goes : (n' : ℕ) (f : Fault) → n' ≡ n → give_fault m' n' plan.left ≡ Some f → ⊥
+    left_goes n' f e x = taken_back m' n' plan.left f (e ∙ v.long ∙ sym got_as.fixed.extent) (λ b q. (got_as.blocks b).1 (inr (v.left b q))) x
 
-    pub copies_out : (back : Option Block) (m'' : Meaning) (bytes bytes' : List ℕ) (new : Line) → back ≡ block_left shared l → GivesBack m' back m'' → bytes' ≡ written_in base k got (shown base l bytes) bytes → new ≡ copied_into base l l.mutable claim k l.capacity got
-        → Copied m bytes l shared c claim new m'' bytes'
-    copies_out back m'' bytes bytes' new eo g w e = record {
-      got = got;
-      between = m';
-      gets = subst (λ (z : Request). Obtains (ltb 0 c) m z got m') request_is o;
-      gives = subst (λ z. GivesBack m' z m'') eo g;
-      writes = w ∙ ap (λ b. written_in b k got (shown b l bytes) bytes) eb ∙ ap (λ z. written_in m.base z got (shown m.base l bytes) bytes) ek;
-      is = e ∙ ap (λ b. copied_into b l l.mutable claim k l.capacity got) eb ∙ ap (λ z. copied_into m.base l l.mutable claim z l.capacity got) ek;
-    }
+    -- the block that was got is that of the new line
+    pub copies_out : (claim : ℕ) (m'' : Meaning) (bytes bytes' : List ℕ) (new : Line) → GivesBack m' plan.left m'' → bytes' ≡ written_in plan.base plan.m got (shown plan.base l bytes) bytes → new ≡ copied_into plan.base l l.mutable claim plan.m l.capacity got
+        → Copied m bytes l c plan (block_of new.backing) m'' bytes' × (new ≡ copied_into plan.base l l.mutable claim plan.m l.capacity (block_of new.backing))
+    unfolding copied_into
+    copies_out claim m'' bytes bytes' new g w e =
+        subst (λ b. Copied m bytes l c plan b m'' bytes' × (new ≡ copied_into plan.base l l.mutable claim plan.m l.capacity b)) (sym (ap (λ (z : Line). block_of z.backing) e ∙ block_got got)) (record { between = m'; gets = o; gives = g; writes = w }, e)
 
 -- where the copy of a shared line stands
-pub copy_sits : (m : Meaning) (n : ℕ) (bytes : List ℕ) (l : Line) (shared : Bool) (c claim : ℕ) (new : Line) (m' : Meaning) (bytes' : List ℕ) → Copying m n l shared c claim → Copied m bytes l shared c claim new m' bytes' → l.capacity ≡ 0 → Sits m.base new (block_of new.backing)
+pub copy_sits : (m : Meaning) (n : ℕ) (bytes : List ℕ) (l : Line) (c claim : ℕ) (plan : CopyPlan) (got : Option Block) (new : Line) (m' : Meaning) (bytes' : List ℕ) → Copying m n l c plan → Copied m bytes l c plan got m' bytes' → new ≡ copied_into plan.base l l.mutable claim plan.m l.capacity got → l.capacity ≡ 0
+    → Sits m.base new (block_of new.backing)
 unfolding copied_into block_of
-copy_sits m n bytes l shared c claim new m' bytes' v d bare = subst (λ (z : Line). Sits m.base z (block_of z.backing)) (sym d.is) (go d.got refl)
+copy_sits m n bytes l c claim plan got new m' bytes' v d is bare = subst (λ b. Sits b new (block_of new.backing)) v.base (subst (λ (z : Line). Sits plan.base z (block_of z.backing)) (sym is) (go got refl))
   where
-    k : ℕ
-    k = max claim preferred_alignment
+    w : Obtained m d.between c (c * l.kind.width + plan.m) got
+    w = obtained m d.between c (c * l.kind.width + plan.m) got v.lawful (subst (λ (r : Request). Obtains (ltb 0 c) m r got d.between) v.asks d.gets)
 
-    w : Obtained m d.between c (copy_size l c claim) d.got
-    w = obtained m d.between c (copy_size l c claim) d.got v.lawful d.gets
-
-    go : (g : Option Block) → d.got ≡ g → Sits m.base (copied_into m.base l l.mutable claim k l.capacity g) (block_of (backing_in g))
+    go : (g : Option Block) → got ≡ g → Sits plan.base (copied_into plan.base l l.mutable claim plan.m l.capacity g) (block_of (backing_in g))
     go None e = (omega (arith, w.bare e, v.room), bare)
     go (Some b) e =
-        let one : 1 ≤ k = omega arith in
-        let high = round_up_high (m.base + b.place) k one in
+        let high = round_up_high (plan.base + b.place) plan.m v.one in
         let none : l.capacity * l.kind.width ≡ 0 = ap (λ z. z * l.kind.width) bare ∙ zero-mul l.kind.width in (
-          round_up_low (m.base + b.place) k,
+          round_up_low (plan.base + b.place) plan.m,
           omega (arith, high, w.sized b e, mul-le-mul_right l.kind.width v.room),
           omega (arith, high, w.sized b e, none),
         )
 
-pub copy_kind : (m : Meaning) (bytes : List ℕ) (l : Line) (shared : Bool) (c claim : ℕ) (new : Line) (m' : Meaning) (bytes' : List ℕ) → Copied m bytes l shared c claim new m' bytes' → new.kind ≡ l.kind
+pub copy_kind : (base : ℕ) (l new : Line) (claim k : ℕ) (got : Option Block) → new ≡ copied_into base l l.mutable claim k l.capacity got → new.kind ≡ l.kind
 unfolding copied_into
-copy_kind m bytes l shared c claim new m' bytes' d = ap (λ (z : Line). z.kind) d.is
+copy_kind base l new claim k got is = ap (λ (z : Line). z.kind) is
 
 -- a copy that is made mutable has all the room in its block
 pub thawed : (base at : ℕ) (l made new : Line) (claim k : ℕ) (got : Option Block) → at ≡ base → made ≡ copied_into base l l.mutable claim k l.capacity got → new ≡ unfrozen (state_with 0 at) made made.backing → new ≡ copied_into base l true claim k (capacity_in base k l.kind.width got) got
@@ -135,16 +126,19 @@ module _ (st : State) (h : Handle) (spot : Spot) (a : Admitted st h spot) where
   l = spot.line
 
   -- the line may be copied
-  pub copying : (shared : Bool) (c claim : ℕ) → l.len ≤ c → Copying st.meaning (length st.bytes) l shared c claim
-  copying shared c claim room =
+  pub copying : (c claim : ℕ) (plan : CopyPlan) → PlannedCopy st l c claim plan → l.len ≤ c → Copying st.meaning (length st.bytes) l c plan
+  copying c claim plan pl room =
       let lim = a.ready.limits in
       record {
         lawful = a.ready.lawful;
         long = a.ready.long;
         ends = omega (arith, lim.1, lim.3);
+        base = pl.base;
         low = λ b q. (subst (Sits st.meaning.base l) q (stands st h spot a).sits).0;
         high = λ b q. let s = subst (Sits st.meaning.base l) q (stands st h spot a).sits in omega (arith, s.1, a.ready.lawful.within b (a.ready.sure.held h.serial l b a.found q));
-        left = λ b q. a.ready.sure.held h.serial l b a.found (left_own shared l b q);
+        left = λ b q. a.ready.sure.held h.serial l b a.found (left_own (shared_by st l) l b (sym pl.left ∙ q));
+        one = subst (λ z. 1 ≤ z) (sym pl.m) (omega arith);
+        asks = pl.asks ∙ ap (λ z. request_for (c * l.kind.width + z)) (sym pl.m);
         room = room;
       }
 
@@ -183,31 +177,35 @@ module _ (st : State) (h : Handle) (spot : Spot) (a : Admitted st h spot) where
           subst (λ z. StaysOr z st (f (line st h)) done (over st ls st.meaning st.bytes) (Copies st (line st h) (c (line st h)) (claim (line st h)) mutable (capacity (line st h)) done (over st ls st.meaning st.bytes))) (sym b) (refl, is) in
           (done, refl, (behind q ∙ none, does done (over st ls st.meaning st.bytes) d))
 
-      pub copied : (shared : Bool) (made new : Line) (ls : List Line) (m' : Meaning) (xs : List ℕ) → refusal (before l) ≡ None → wanted l ≡ true → stay l ≡ false → shared ≡ shared_by st l
-          → refusal (copy_checks st.meaning l (c l) (claim l)) ≡ None → Copied st.meaning st.bytes l shared (c l) (claim l) made m' xs
-          → ((got : Option Block) → made ≡ copied_into st.meaning.base l l.mutable (claim l) (max (claim l) preferred_alignment) l.capacity got → new ≡ copied_into st.meaning.base l mutable (claim l) (max (claim l) preferred_alignment) (capacity l got) got)
+      pub copied : (plan : CopyPlan) (got : Option Block) (made new : Line) (ls : List Line) (m' : Meaning) (xs : List ℕ) → PlannedCopy st l (c l) (claim l) plan → refusal (before l) ≡ None → wanted l ≡ true → stay l ≡ false
+          → refusal (asking st.meaning (c l) (asked plan.layout)) ≡ None → Copied st.meaning st.bytes l (c l) plan got m' xs
+          → made ≡ copied_into plan.base l l.mutable (claim l) plan.m l.capacity got
+          → (made ≡ copied_into st.meaning.base l l.mutable (claim l) (max (claim l) preferred_alignment) l.capacity got → new ≡ copied_into st.meaning.base l mutable (claim l) (max (claim l) preferred_alignment) (capacity l got) got)
           → ls ≡ set st.lines spot.place new → Grants st call 0 (over st ls m' xs)
       unfolding copied_into
-      copied shared made new ls m' xs q w s es x v put el =
-          let is_new = put v.got v.is in
+      copied plan got made new ls m' xs pl q w s x v em put el =
+          let mx : ℕ = max (claim l) preferred_alignment in
+          let is_new = put (em ∙ ap (λ b. copied_into b l l.mutable (claim l) plan.m l.capacity got) pl.base ∙ ap (λ z. copied_into st.meaning.base l l.mutable (claim l) z l.capacity got) pl.m) in
+          let writes : xs ≡ written_in st.meaning.base mx got (shown st.meaning.base l st.bytes) st.bytes = v.writes ∙ ap (λ b. written_in b plan.m got (shown b l st.bytes) st.bytes) pl.base
+          ∙ ap (λ z. written_in st.meaning.base z got (shown st.meaning.base l st.bytes) st.bytes) pl.m in
           let serial : new.serial ≡ h.serial = ap (λ (z : Line). z.serial) is_new ∙ serial_is st h spot a in
-          let g : Grant = record { serial = 0; blocks = list_of v.got; copied = true } in
+          let g : Grant = record { serial = 0; blocks = list_of got; copied = true } in
           let d : Copies st l (c l) (claim l) mutable (capacity l) g (over st ls m' xs) = record {
-            got = v.got;
+            got = got;
             between = v.between;
             meaning = m';
-            gets = v.gets;
-            gives = subst (λ b. GivesBack v.between (block_left b l) m') es v.gives;
+            gets = subst (λ (r : Request). Obtains (ltb 0 (c l)) st.meaning r got v.between) pl.asks v.gets;
+            gives = subst (λ z. GivesBack v.between z m') pl.left v.gives;
             grant = refl;
-            is = put_is st h spot a new ls m' xs serial el ∙ ap (λ z. put_line (with_bytes (with_meaning st m') z) new) v.writes
-                ∙ ap (put_line (with_bytes (with_meaning st m') (written_in st.meaning.base (max (claim l) preferred_alignment) v.got (shown st.meaning.base l st.bytes) st.bytes))) is_new;
+            is = put_is st h spot a new ls m' xs serial el ∙ ap (λ z. put_line (with_bytes (with_meaning st m') z) new) writes
+                ∙ ap (put_line (with_bytes (with_meaning st m') (written_in st.meaning.base mx got (shown st.meaning.base l st.bytes) st.bytes))) is_new;
           } in
           let d' : Copies st (line st h) (c (line st h)) (claim (line st h)) mutable (capacity (line st h)) g (over st ls m' xs) = subst (λ (z : Line). Copies st z (c z) (claim z) mutable (capacity z) g (over st ls m' xs)) (is_line st h spot a) d in
           let b : stay (line st h) ≡ false = ap stay (sym (is_line st h spot a)) ∙ s in (
             g,
             refl,
             (
-              asked_for q w ∙ x,
+              asked_for q w ∙ planned_checks st l (c l) (claim l) plan pl ∙ x,
               does g (over st ls m' xs)
                   (subst (λ z. StaysOr z st (f (line st h)) g (over st ls m' xs) (Copies st (line st h) (c (line st h)) (claim (line st h)) mutable (capacity (line st h)) g (over st ls m' xs))) (sym b) d'),
             ),
@@ -271,10 +269,10 @@ module _ (st : State) (h : Handle) (spot : Spot) (a : Admitted st h spot) where
         stayed (aligning h claim) (λ z. below_kind z.kind claim) (λ z. not (is_aligned z claim)) (λ z. max z.len z.capacity) (λ z. claim) brings_aligning own_aligning
         (λ z. is_aligned z claim) (λ z. with_claim z claim) h.mutable (λ z got. z.capacity) does_aligning new ls q (ap not w) w e (ap (λ (z : Line). z.serial) e) el
 
-    pub align_copied : (shared : Bool) (count : ℕ) (new : Line) (ls : List Line) (m' : Meaning) (xs : List ℕ) → count ≡ max l.len l.capacity → refusal (below_kind l.kind claim) ≡ None → is_aligned l claim ≡ false → shared ≡ shared_by st l
-        → refusal (copy_checks st.meaning l count claim) ≡ None → Copied st.meaning st.bytes l shared count claim new m' xs → ls ≡ set st.lines spot.place new → Grants st (aligning h claim) 0 (over st ls m' xs)
-    align_copied shared count new ls m' xs ec q w es x v el =
+    pub align_copied : (count : ℕ) (plan : CopyPlan) (got : Option Block) (new : Line) (ls : List Line) (m' : Meaning) (xs : List ℕ) → count ≡ max l.len l.capacity → PlannedCopy st l count claim plan → refusal (below_kind l.kind claim) ≡ None → is_aligned l claim ≡ false
+        → refusal (asking st.meaning count (asked plan.layout)) ≡ None → Copied st.meaning st.bytes l count plan got m' xs → new ≡ copied_into plan.base l l.mutable claim plan.m l.capacity got → ls ≡ set st.lines spot.place new → Grants st (aligning h claim) 0 (over st ls m' xs)
+    align_copied count plan got new ls m' xs ec pl q w x v en el =
         copied (aligning h claim) (λ z. below_kind z.kind claim) (λ z. not (is_aligned z claim)) (λ z. max z.len z.capacity) (λ z. claim) brings_aligning own_aligning
         (λ z. is_aligned z claim) (λ z. with_claim z claim) h.mutable (λ z got. z.capacity) does_aligning
-        shared new new ls m' xs q (ap not w) w es (ap (λ n. refusal (copy_checks st.meaning l n claim)) (sym ec) ∙ x) (subst (λ n. Copied st.meaning st.bytes l shared n claim new m' xs) ec v)
-        (λ got e. e ∙ ap (λ b. copied_into st.meaning.base l b claim (max claim preferred_alignment) l.capacity got) state_is) el
+        plan got new new ls m' xs (subst (λ n. PlannedCopy st l n claim plan) ec pl) q (ap not w) w (ap (λ n. refusal (asking st.meaning n (asked plan.layout))) (sym ec) ∙ x) (subst (λ n. Copied st.meaning st.bytes l n plan got m' xs) ec v) en
+        (λ e. e ∙ ap (λ b. copied_into st.meaning.base l b claim (max claim preferred_alignment) l.capacity got) state_is) el

@@ -1,7 +1,7 @@
 // SPDX-License-Identifier: Apache-2.0
 // The checks that all calls have: the region, the handle, and room for a new handle.
 ghost use Rattle.std.specs.Prelude.{◌≡◌, false, length, if◌then◌else◌, Some, None, MatchResult, nat_eq};
-ghost use Rattle.ledger.specs.Entry.{region_check, entry, opening, Ready, Admitted, Opened};
+ghost use Rattle.ledger.specs.Entry.{region_check, entry, handle_check, opening, Ready, Admitted, Free, Opened};
 ghost use Rattle.ledger.specs.View.{state};
 ghost use Rattle.model.specs.Book.{agrees};
 ghost use Rattle.model.specs.Checks.{refusal};
@@ -52,6 +52,16 @@ impl<B: Allocator> Ledger<B> {
         Ok(Spot { place, line })
     }
 
+    // There is room for a handle; then its serial.
+    pub fn next_serial(&self, region: &[u8]) -> Result<u32, Fault>
+        ensures { let st = state B.Allocator.meaning self.now region.now in
+            MatchResult result
+            (λ n. (refusal (handle_check st.next st.lines) ≡ None) × Free st.next st.lines n)
+            (λ f. refusal (handle_check st.next st.lines) ≡ Some f) }
+    {
+        self.register.next_serial()
+    }
+
     // The region has the allocator's length and there is room for a handle; then its serial.
     pub fn opens(&self, region: &[u8]) -> Result<u32, Fault>
         ensures { MatchResult result
@@ -59,6 +69,6 @@ impl<B: Allocator> Ledger<B> {
             (λ f. refusal (opening (state B.Allocator.meaning self.now region.now)) ≡ Some f) }
     {
         self.knows_region(region)?;
-        self.register.next_serial()
+        self.next_serial(region)
     }
 }

@@ -26,7 +26,7 @@ impl<B: Allocator> Ledger<B> {
         ensures { OpenedBeside (state B.Allocator.meaning self.old region.now) h (F.post change) result (state B.Allocator.meaning self.new region.now) }
     {
         let spot = self.admits(region, h)?;
-        let serial = self.register.next_serial()?;
+        let serial = self.next_serial(region)?;
         let (first, second) = change(spot.line, serial);
         self.register.book.put(spot.place, first);
         self.register.add(second);

@@ -6,6 +6,7 @@
 pub mod admitting;
 pub mod appending;
 pub mod claim;
+pub mod copy_plan;
 pub mod copying;
 pub mod editing;
 pub mod getting;

@@ -30,11 +30,10 @@ impl<B: Allocator> Ledger<B> {
         ensures { Opens (state B.Allocator.meaning self.old region.now) (Slice h.handle first last (claim_of claim)) result (state B.Allocator.meaning self.new region.now) }
     {
         let spot = self.admits(region, h.handle)?;
-        let serial = self.register.next_serial()?;
+        let serial = self.next_serial(region)?;
         let claim = claim.of(spot.line);
         let range = slices(spot.line, first, last, claim)?;
-        self.register
-            .add(slice_line(serial, spot.line, range, claim));
+        self.register.add(slice_line(serial, spot.line, range.begin..range.end, claim));
         Ok(serial)
     }
 

@@ -19,19 +19,29 @@ use Rattle.ledger.proofs.ledger.Ledger.into_mut.Given as given
 use Rattle.ledger.proofs.ledger.Ledger.into_mut.Goals as goal
 use Rattle.ledger.proofs.ledger.Ledger.into_mut.Goals.{After-put, After-put-2}
 
+pub returns-in_err-plan : goal.returns-in_err-plan
+unfolding shared_by
+returns-in_err-plan g c =
+    let st : State = state g.B.Allocator.meaning c.args.self.now c.args.region.now in
+    let l : Line = c.in_ok-spot.spot.line in
+    let p = err_from_is_err_and c.from_residual-in_err-plan.result c.from_residual-in_err-plan.ensures.1 in
+    let b = link.copy_unsized st.meaning l l.len l.claim _ refl _ c.in_err-plan.ensures in
+    rw (p.1, p.2) (link.stop_copy st c.args.h.handle c.in_ok-spot.spot c.in_ok-spot.ensures (IntoMut c.args.h.handle) (λ l. []) (λ l. shared_by st l) (λ l. l.len) (λ l. l.claim) (ap (λ b. uses c.args.h.handle (not b)) c.args.h.shared) refl _ refl (sym c.shares-shared.ensures ∙ c.if-not-shared.false) b, refl)
+
 pub copy_out-requires : goal.copy_out-requires
 copy_out-requires g c =
     let st : State = state g.B.Allocator.meaning c.args.self.now c.args.region.now in
-    record { copying = link.copying st c.args.h.handle c.in_ok-spot.spot c.in_ok-spot.ensures c.shares-shared.result c.in_ok-spot.spot.line.len c.in_ok-spot.spot.line.claim (omega arith) }
+    record { copying = link.copying st c.args.h.handle c.in_ok-spot.spot c.in_ok-spot.ensures c.in_ok-spot.spot.line.len c.in_ok-spot.spot.line.claim c.in_ok-plan.plan c.in_ok-plan.ensures (omega arith) }
 
 pub returns-in_err-line : goal.returns-in_err-line
 unfolding shared_by
 returns-in_err-line g c =
     let st : State = state g.B.Allocator.meaning c.args.self.now c.args.region.now in
+    let l : Line = c.in_ok-spot.spot.line in
     let p = err_from_is_err_and c.from_residual-in_err-line.result c.from_residual-in_err-line.ensures.1 in
     let b = c.in_err-line.ensures in
     rw (p.1, p.2) (
-      link.stop_copy st c.args.h.handle c.in_ok-spot.spot c.in_ok-spot.ensures (IntoMut c.args.h.handle) (λ l. []) (λ l. shared_by st l) (λ l. l.len) (λ l. l.claim) (ap (λ b. uses c.args.h.handle (not b)) c.args.h.shared) refl _ refl (sym c.shares-shared.ensures ∙ c.if-not-shared.false) b.0,
+      link.stop_copy st c.args.h.handle c.in_ok-spot.spot c.in_ok-spot.ensures (IntoMut c.args.h.handle) (λ l. []) (λ l. shared_by st l) (λ l. l.len) (λ l. l.claim) (ap (λ b. uses c.args.h.handle (not b)) c.args.h.shared) refl _ refl (sym c.shares-shared.ensures ∙ c.if-not-shared.false) (link.planned_checks st l l.len l.claim c.in_ok-plan.plan c.in_ok-plan.ensures ∙ b.0),
       λ i. record { number = st.number; next = st.next; lines = st.lines; meaning = b.1 i; bytes = b.2 i },
     )
 
@@ -39,11 +49,10 @@ pub invariant_of-placed-2 : goal.invariant_of-placed-2
 invariant_of-placed-2 g c =
     let st : State = state g.B.Allocator.meaning c.args.self.now c.args.region.now in
     let l : Line = c.in_ok-spot.spot.line in
-    let copying = link.copying st c.args.h.handle c.in_ok-spot.spot c.in_ok-spot.ensures c.shares-shared.result l.len l.claim (omega arith) in
-    let copied = c.in_ok-line.ensures.1 in
+    let copying = link.copying st c.args.h.handle c.in_ok-spot.spot c.in_ok-spot.ensures l.len l.claim c.in_ok-plan.plan c.in_ok-plan.ensures (omega arith) in
     let bare = link.bare st c.args.h.handle c.in_ok-spot.spot c.in_ok-spot.ensures c.args.h.shared in
     record {
-      sits = subst (λ b. Sits b c.in_ok-line.line (block_of c.in_ok-line.line.backing)) (sym c.base-base.ensures) (link.copy_sits st.meaning _ st.bytes l c.shares-shared.result l.len l.claim c.in_ok-line.line _ _ copying copied bare);
+      sits = subst (λ b. Sits b c.in_ok-line.line (block_of c.in_ok-line.line.backing)) (sym c.base-base.ensures) (link.copy_sits st.meaning _ st.bytes l l.len l.claim c.in_ok-plan.plan _ c.in_ok-line.line _ _ copying c.in_ok-line.ensures.1 c.in_ok-line.ensures.2 bare);
     }
 
 pub unfrozen-requires-2 : goal.unfrozen-requires-2
@@ -51,7 +60,7 @@ unfrozen-requires-2 g c =
     let st : State = state g.B.Allocator.meaning c.args.self.now c.args.region.now in
     let l : Line = c.in_ok-spot.spot.line in
     let s = edits.stands st c.args.h.handle c.in_ok-spot.spot c.in_ok-spot.ensures in
-    subst (λ (k : Kind). 1 ≤ k.width) (sym (link.copy_kind st.meaning st.bytes l c.shares-shared.result l.len l.claim c.in_ok-line.line _ _ c.in_ok-line.ensures.1)) s.wide
+    subst (λ (k : Kind). 1 ≤ k.width) (sym (link.copy_kind c.in_ok-plan.plan.base l c.in_ok-line.line l.claim c.in_ok-plan.plan.m _ c.in_ok-line.ensures.2)) s.wide
 
 -- alone on its backing, it stays where it is
 stays : (g : given.Over) (c : After-put g) → let st : State = state g.B.Allocator.meaning c.args.self.now c.args.region.now in Grants st (IntoMut c.args.h.handle) 0 (over st (lines_of c.put.new.self) st.meaning st.bytes)
@@ -70,8 +79,8 @@ copies g c =
     let st : State = state g.B.Allocator.meaning c.args.self.now c.args.region.now in
     let l : Line = c.in_ok-spot.spot.line in
     link.copied st c.args.h.handle c.in_ok-spot.spot c.in_ok-spot.ensures (IntoMut c.args.h.handle) (λ l. []) (λ l. shared_by st l) (λ l. l.len) (λ l. l.claim) (ap (λ b. uses c.args.h.handle (not b)) c.args.h.shared) refl (λ l. not (shared_by st l)) (λ l. unfrozen st l l.backing) true (λ l got. capacity_in st.meaning.base (max l.claim preferred_alignment) l.kind.width got) (λ g st' d. d)
-    c.shares-shared.result c.in_ok-line.line c.unfrozen-2.result (lines_of c.put-2.new.self) _ c.copy_out.new.region refl (sym c.shares-shared.ensures ∙ c.if-not-shared.false) (ap not (sym c.shares-shared.ensures ∙ c.if-not-shared.false)) c.shares-shared.ensures
-    c.in_ok-line.ensures.0 c.in_ok-line.ensures.1 (λ got e. link.thawed st.meaning.base c.base-base.result l c.in_ok-line.line c.unfrozen-2.result l.claim (max l.claim preferred_alignment) got c.base-base.ensures e c.unfrozen-2.ensures) c.put-2.ensures
+    c.in_ok-plan.plan (block_of c.in_ok-line.line.backing) c.in_ok-line.line c.unfrozen-2.result (lines_of c.put-2.new.self) _ c.copy_out.new.region c.in_ok-plan.ensures refl (sym c.shares-shared.ensures ∙ c.if-not-shared.false) (ap not (sym c.shares-shared.ensures ∙ c.if-not-shared.false))
+    c.in_ok-line.ensures.0 c.in_ok-line.ensures.1 c.in_ok-line.ensures.2 (λ e. link.thawed st.meaning.base c.base-base.result l c.in_ok-line.line c.unfrozen-2.result l.claim (max l.claim preferred_alignment) (block_of c.in_ok-line.line.backing) c.base-base.ensures e c.unfrozen-2.ensures) c.put-2.ensures
 
 pub returns-then-not-shared : goal.returns-then-not-shared
 returns-then-not-shared g c = stays g (goal.at.returns-then-not-shared g c).After-put

@@ -29,7 +29,7 @@ returns-in_err-range g c =
 granted : (g : given.Over) (c : After-add g) → let st : State = state g.B.Allocator.meaning c.args.self.now c.args.region.now in Grants st (Slice c.args.h.handle c.args.first c.args.last (claim_of c.args.claim)) c.in_ok-serial.serial (over_next st c.add.new.self.next (lines_of c.add.new.self.book) st.meaning st.bytes)
 granted g c =
     let st : State = state g.B.Allocator.meaning c.args.self.now c.args.region.now in
-    link.sliced st c.args.h.handle c.in_ok-spot.spot c.in_ok-spot.ensures c.args.first c.args.last (claim_of c.args.claim) c.of-claim.result c.of-claim.ensures (ap (λ b. makes_from c.args.h.handle (not b)) c.args.h.shared) c.in_ok-serial.ensures.0 c.in_ok-serial.serial c.in_ok-range.range.start c.in_ok-range.range.end c.in_ok-serial.ensures.1 c.slice_line.result c.add.new.self.next (lines_of c.add.new.self.book) c.in_ok-range.ensures.3 c.in_ok-range.ensures.0 c.in_ok-range.ensures.1 c.slice_line.ensures c.add.ensures
+    link.sliced st c.args.h.handle c.in_ok-spot.spot c.in_ok-spot.ensures c.args.first c.args.last (claim_of c.args.claim) c.of-claim.result c.of-claim.ensures (ap (λ b. makes_from c.args.h.handle (not b)) c.args.h.shared) c.in_ok-serial.ensures.0 c.in_ok-serial.serial c.in_ok-range.range.begin c.in_ok-range.range.end c.in_ok-serial.ensures.1 c.slice_line.result c.add.new.self.next (lines_of c.add.new.self.book) c.in_ok-range.ensures.3 c.in_ok-range.ensures.0 c.in_ok-range.ensures.1 c.slice_line.ensures c.add.ensures
 
 pub returns : goal.returns
 returns g c = granted g (goal.at.returns g c).After-add
