@@ -1,1 +1,2 @@
+pub mod Makings
 mod Typed

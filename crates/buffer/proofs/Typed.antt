@@ -12,6 +12,7 @@ use Rattle.model.specs.Patterns.{Even}
 use Rattle.model.specs.Values.{Bytes as AllBytes, Coding, PartsAgree}
 use Rattle.model.specs.declared.line.Handle.{Handle}
 use Rattle.model.proofs.Values.{values_law}
+use Rattle.buffer.proofs.Makings.{copy_from_is, full_is, zeroed_is}
 use Rattle.buffer.specs.Handles.{bytes_if, bytes_of, kind}
 use Rattle.buffer.specs.Typed.{TypedBytes, TypedCalls, TypedLaw, TypedMakings, TypedMutableMakings}
 
@@ -42,9 +43,9 @@ module _ {K : Type 0} (e : Element K) (shaped : Shaped e.width e.align) (faithfu
 
   makings : (mutable : Bool) → TypedMakings e mutable
   makings mutable = record {
-    zeroed = λ n. (sound, sound.align, fair_default);
-    full = λ v n. (sound, sound.align, fair_default, evens n v);
-    copy_from = λ vs. (sound, sound.align, fair_default, even vs);
+    zeroed = λ n. rw zeroed_is (sound, sound.align, fair_default);
+    full = λ v n. rw full_is (sound, sound.align, fair_default, evens n v);
+    copy_from = λ vs. rw copy_from_is (sound, sound.align, fair_default, even vs);
   }
 
   mutable_makings : TypedMutableMakings e

@@ -1,19 +1,20 @@
 -- Every public call of a kind is one that a run may make: its kind is sound, its alignments are alignments, its patterns have the kind's width.
-use Rattle.std.specs.Prelude.{◌≡◌, ℕ, Bool, List, map, replicate, Option}
+use Rattle.std.specs.Prelude.{◌≡◌, ℕ, Bool, List, map, Option}
 use Rattle.allocation.specs.declared.alignment.Alignment.{Alignment}
 use Rattle.element.specs.declared.Element.{Ghosts as Element}
-use Rattle.model.specs.Calls.{CopyFrom, Zeroed, aligned, aligned_mut, copy_from_aligned_in, copy_from_preferred_aligned_in, empty_aligned, empty_aligned_in, ensure_aligned, extend_from_slice, from_byte_buffer, from_byte_buffer_aligned, preferred_alignment, push, push_n, set, slice_with_alignment, with_capacity_aligned_in, with_capacity_in, with_capacity_preferred_aligned_in, zeroed_aligned_in, zeroed_preferred_aligned_in}
+use Rattle.model.specs.Calls.{aligned, aligned_mut, copy_from_aligned_in, copy_from_preferred_aligned_in, empty_aligned, empty_aligned_in, ensure_aligned, extend_from_slice, from_byte_buffer, from_byte_buffer_aligned, push, push_n, set, slice_with_alignment, with_capacity_aligned_in, with_capacity_in, with_capacity_preferred_aligned_in, zeroed_aligned_in, zeroed_preferred_aligned_in}
 use Rattle.model.specs.Runs.{Sound}
 use Rattle.std.specs.declared.ops.Bound.{Bound}
 use Rattle.model.specs.declared.line.Handle.{Handle}
 use Rattle.buffer.specs.Handles.{bytes_if, bytes_of, kind}
+use Rattle.buffer.specs.Makings.{copy_from_of, full_of, zeroed_of}
 
 module _ {K : Type 0} (e : Element K) where
   -- the makings that both states have
   pub record TypedMakings (mutable : Bool) : Type 0 where
-    pub zeroed : (n : ℕ) → Sound (Zeroed (kind e) mutable n e.align preferred_alignment)
-    pub full : (v : K) (n : ℕ) → Sound (CopyFrom (kind e) mutable (replicate n (e.pattern v)) e.align preferred_alignment)
-    pub copy_from : (vs : List K) → Sound (CopyFrom (kind e) mutable (map e.pattern vs) e.align preferred_alignment)
+    pub zeroed : (n : ℕ) → Sound (zeroed_of mutable (kind e) n)
+    pub full : (v : K) (n : ℕ) → Sound (full_of mutable (kind e) (e.pattern v) n)
+    pub copy_from : (vs : List K) → Sound (copy_from_of mutable (kind e) (map e.pattern vs))
 
   -- the makings of a mutable handle alone
   pub record TypedMutableMakings : Type 0 where

@@ -8,13 +8,14 @@ pub use ledger::refused::Refused;
 
 // Why a handle was not released, and the handle: a program tries again with it, or abandons it.
 // It is no `Refused`, which cannot be abandoned: what any other refused call gives back is still to be released.
+// The calls keep to that, and the type does not: its fields are public, so a program can put any handle into one and abandon that.
 pub struct Unreleased<H> {
     pub fault: Fault,
     pub handle: H,
 }
 
 impl<S, K> Unreleased<TypedHandle<S, K>> {
-    // Gives up a handle that the store does not release; its line stays in the book of the store that made it.
+    // Gives up the handle; a line that it stands for stays in the book of the store that made it.
     pub fn abandon(self) -> Fault
         ensures { result ≡ self.fault }
     {

@@ -1,12 +1,13 @@
 // SPDX-License-Identifier: Apache-2.0
 // What handles have in either state.
 // Works over src/buffer_mut.rs and src/buffer.rs of vortex-buffer 0.90.0.
-ghost use Rattle.std.specs.Prelude.{◌≡◌, map, replicate, MatchResult};
+ghost use Rattle.std.specs.Prelude.{◌≡◌, map, MatchResult};
 ghost use Rattle.buffer.specs.Answered.{Ends, Makes, Named, Reads, Turns, outcome};
 ghost use Rattle.buffer.specs.Handles.{handle, kind};
+ghost use Rattle.buffer.specs.Makings.{copy_from_of, full_of, zeroed_of};
 ghost use Rattle.buffer.specs.View.{state};
 ghost use Rattle.ledger.specs.Results.{Done, Refuses, Shown};
-ghost use Rattle.model.specs.Calls.{CopyFrom, Zeroed, clear, into_byte_buffer, preferred_alignment, read, release};
+ghost use Rattle.model.specs.Calls.{clear, into_byte_buffer, read, release};
 ghost use Rattle.model.specs.Reads.{alignment_of, is_empty, len_of};
 
 use crate::kinds::{kind_of, terms_of_kind};
@@ -19,7 +20,8 @@ use element::Element;
 use model::line::Handle;
 use std::marker::PhantomData;
 
-// A handle in the state S on elements of the kind K. No program copies it, makes it by hand or forgets it: it stands for one line of a store's book.
+// A handle in the state S on elements of the kind K. It stands for one line of a store's book: no program copies it, makes it by hand or forgets it,
+// but for `abandon` of `Unreleased`, which gives it up by name.
 pub struct TypedHandle<S, K> {
     store: u32,
     serial: u32,
@@ -95,12 +97,13 @@ impl<S: HandleState, K: Element> TypedHandle<S, K> {
     }
 
     // A handle on so many elements that are zero in all bytes, at the alignment of the kind.
+    #[tactic(auto, using(crate::proofs::Makings::zeroed_is))]
     pub fn zeroed_in<B: Allocator>(
         store: &mut Store<B>,
         region: &mut [u8],
         len: usize,
     ) -> Result<Self, Fault>
-        ensures { Makes (state B.Allocator store.old region.old) (Zeroed (kind K.Element) S.MUTABLE len K.align preferred_alignment) result (state B.Allocator store.new region.new) }
+        ensures { Makes (state B.Allocator store.old region.old) (zeroed_of S.MUTABLE (kind K.Element) len) result (state B.Allocator store.new region.new) }
     {
         let number = store.number();
         let made = store
@@ -110,13 +113,14 @@ impl<S: HandleState, K: Element> TypedHandle<S, K> {
     }
 
     // A handle on one value, n times, at the alignment of the kind.
+    #[tactic(auto, using(crate::proofs::Makings::full_is))]
     pub fn full_in<B: Allocator>(
         store: &mut Store<B>,
         region: &mut [u8],
         value: &K,
         n: usize,
     ) -> Result<Self, Fault>
-        ensures { Makes (state B.Allocator store.old region.old) (CopyFrom (kind K.Element) S.MUTABLE (replicate n (K.pattern value.now)) K.align preferred_alignment) result (state B.Allocator store.new region.new) }
+        ensures { Makes (state B.Allocator store.old region.old) (full_of S.MUTABLE (kind K.Element) (K.pattern value.now) n) result (state B.Allocator store.new region.new) }
     {
         let number = store.number();
         let made = store
@@ -126,12 +130,13 @@ impl<S: HandleState, K: Element> TypedHandle<S, K> {
     }
 
     // A handle on the values, at the alignment of the kind.
+    #[tactic(auto, using(crate::proofs::Makings::copy_from_is))]
     pub fn copy_from_in<B: Allocator>(
         store: &mut Store<B>,
         region: &mut [u8],
         values: &[K],
     ) -> Result<Self, Fault>
-        ensures { Makes (state B.Allocator store.old region.old) (CopyFrom (kind K.Element) S.MUTABLE (map K.pattern values.now) K.align preferred_alignment) result (state B.Allocator store.new region.new) }
+        ensures { Makes (state B.Allocator store.old region.old) (copy_from_of S.MUTABLE (kind K.Element) (map K.pattern values.now)) result (state B.Allocator store.new region.new) }
     {
         let number = store.number();
         let made = store
