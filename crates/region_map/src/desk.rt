@@ -32,6 +32,8 @@ pub struct Desk {
 
 impl Desk {
     // Begins a day with a new allocator; none where its region is beyond the limits.
+    // Not inlined, nor is `outcome`: the stack that each needs would lie in the frame of `obey` all day.
+    #[inline(never)]
     pub fn open(
         rt: &(impl Print + AllocGlobal),
         kind: Kind,
@@ -62,6 +64,7 @@ impl Desk {
         }
     }
 
+    #[inline(never)]
     fn outcome(&mut self, call: Call) -> Result<Outcome, Trouble> {
         match &mut self.allocator {
             Chosen::General(general) => self.day.call(general, call),

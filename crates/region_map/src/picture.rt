@@ -1,5 +1,7 @@
 // SPDX-License-Identifier: Apache-2.0
 // A picture of a region in text: which bytes are whose, and what is free.
+ghost use Rattle.std.specs.Prelude.{◌<◌};
+
 use crate::day::{Day, Held};
 use allocation::block::Block;
 use std::io;
@@ -10,21 +12,37 @@ const CELLS: usize = 64;
 
 // Prints a row of signs and then every stretch of the region, lowest first.
 pub fn draw(rt: &impl Print, day: &Day) -> io::Result<()> {
-    let extent = day.extent();
-    let width = extent / CELLS;
+    let width = day.extent() / CELLS;
     print!(rt; "   [")?;
-    // Cell i starts at i times the width.
-    for i in 0..CELLS {
-        let from = i.saturating_mul(width);
-        let end = if i + 1 == CELLS {
-            extent
-        } else {
-            from.saturating_add(width)
-        };
-        print!(rt; "{}", sign(day, from, end))?;
+    for sign in signs(day, width) {
+        print!(rt; "{sign}")?;
     }
     println!(rt; "] {width} bytes a sign")?;
     stretches(rt, day)
+}
+
+// The signs of all cells: a point where a cell is free, a star where several blocks meet, else the block's own.
+// Cell i starts at i times the width, and the last one goes on to the region's end. Each block is looked at once, since a step through the map costs more than one through a row.
+fn signs(day: &Day, width: usize) -> [char; CELLS] {
+    let mut signs = ['.'; CELLS];
+    for held in day.held().values() {
+        let own = sign_of(held.number);
+        let first = cell_of(held.block.place, width);
+        let last = cell_of(held.end().saturating_sub(1), width);
+        if let Some(cells) = signs.get_mut(first..last + 1) {
+            for sign in cells {
+                *sign = if *sign == '.' { own } else { '*' };
+            }
+        }
+    }
+    signs
+}
+
+// The cell in which a place lies.
+fn cell_of(place: usize, width: usize) -> usize
+    ensures { result < 64 }
+{
+    (place / width.max(1)).min(CELLS - 1)
 }
 
 // Looks for each next block anew, since a sorted copy would need memory, which can run out.
@@ -56,19 +74,6 @@ fn lowest_from(day: &Day, place: usize) -> Option<Held> {
         .copied()
         .filter(|held| held.block.place >= place)
         .min_by_key(|held| held.block.place)
-}
-
-// The sign of a cell: a point where it is free, a star where several blocks meet, else the block's own.
-fn sign(day: &Day, from: usize, end: usize) -> char {
-    let mut inside = day
-        .held()
-        .values()
-        .filter(|held| held.block.place < end && from < held.end());
-    match (inside.next(), inside.next()) {
-        (None, _) => '.',
-        (Some(held), None) => sign_of(held.number),
-        (Some(_), Some(_)) => '*',
-    }
 }
 
 fn sign_of(number: usize) -> char {
